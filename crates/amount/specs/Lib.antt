@@ -1,0 +1,5 @@
+pub mod Arithmetic
+pub mod Counts
+pub mod Pairs
+pub mod Phases
+pub mod Sets

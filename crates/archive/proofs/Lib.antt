@@ -1,0 +1,4 @@
+pub mod Codecs
+pub mod Digits
+pub mod Exactly
+pub mod Pieces

@@ -1,0 +1,11 @@
+// Lists a day of phases: a day file on standard input, its records in words on standard output.
+use amount::Phases;
+use amount::PhasesAmount;
+use archive::PhasesArchived;
+use console::list_input;
+use listing::PhasesListed;
+use std::error::AnyError;
+
+fn main(rt: LibcRuntime) -> Result<(), AnyError> {
+    rt.report(list_input::<Phases>(&rt))
+}
