@@ -12,6 +12,7 @@ pub use amounts::PhasesListed;
 pub use day::list_day;
 pub use listed::Listed;
 pub use no_memory::NoMemory;
+pub use no_memory::NoMemoryDebug;
 pub use no_memory::NoMemoryDisplay;
 pub use no_memory::NoMemoryError;
 pub use no_memory::NoMemoryFromAlloc;
