@@ -12,6 +12,7 @@ carried to from o = record {
   zero = from (o .zero);
   plus = λ a b. mapped from (o .plus (to a) (to b));
   minus = λ b a. mapped from (o .minus (to b) (to a));
+  equal = λ a b. o .equal (to a) (to b);
 }
 
 module _ {A B : Type 0} (to : A → B) (from : B → A) (from-to : (a : A) → from (to a) ≡ a) (to-from : (b : B) → to (from b) ≡ b) where
@@ -46,4 +47,5 @@ module _ {A B : Type 0} (to : A → B) (from : B → A) (from-to : (a : A) → f
       λ p. some-mapped _ b (l .difference (to a) (to b) (to c) .0 (mapped-some _ c p)),
       λ p. some-mapped _ c (l .difference (to a) (to b) (to c) .1 (mapped-some _ b p)),
     );
+    equality = λ a b. (λ e. to-inj a b (l .equality (to a) (to b) .0 e), λ e. l .equality (to a) (to b) .1 (ap to e));
   }

@@ -7,6 +7,7 @@ use native.Mathlib.Omega.{arith}
 use native.Mathlib.Decide.{decLt, decLe}
 use Rattle.std.specs.declared.option.Option.{Option}
 use Rattle.std.specs.declared.option.Option.the-variants.{Some, None}
+use Rattle.std.proofs.shelf.Tests.{eqb-true, eq-eqb}
 use Rattle.amount.specs.Arithmetic.{Ops, Laws, bind}
 use Rattle.amount.specs.Counts.{given, fitted, count-ops, amps, amps-number, amps-ops}
 use Rattle.amount.specs.declared.amps.Amps.{Amps}
@@ -74,6 +75,7 @@ module _ {T : Type 0} {limit : ℕ} {make : (n : ℕ) → n < limit → T} {numb
       cancels = λ a b c s p q. let x = fitted-is _ s p in let y = fitted-is _ s q in number-inj a b (omega arith);
       positive = λ a b p. let x = fitted-is _ none p in (number-inj a none (omega arith), number-inj b none (omega arith));
       difference = λ a b c. (left a b c, found a b c);
+      equality = λ a b. (λ e. number-inj a b (eqb-true (number a) (number b) e), λ e. eq-eqb (number a) (number b) (ap number e));
     }
 
     -- what code shows of a sum and a difference

@@ -2,6 +2,7 @@
 use mathlib.Core.Path.{_≡_, refl, sym, ap, _∙_}
 use Rattle.std.specs.declared.option.Option.{Option}
 use Rattle.std.specs.declared.option.Option.the-variants.{Some, None}
+use Rattle.std.proofs.shelf.Tests.{and-parts, and-from}
 use Rattle.amount.specs.Arithmetic.{Ops, Laws, bind}
 use Rattle.amount.specs.Pairs.{pair-of, both, sides, pair-ops}
 use Rattle.amount.specs.declared.pair.Pair.{Pair}
@@ -49,5 +50,13 @@ module _ {L R : Type 0} {ol : Ops L} {or : Ops R} (l : Laws ol) (r : Laws or) wh
           rw (l .difference (a .left) (b .left) (c .left) .0 (x .0), r .difference (a .right) (b .right) (c .right) .0 (x .1)) refl,
       λ p. let x = both-some _ _ b p in
           rw (l .difference (a .left) (b .left) (c .left) .1 (x .0), r .difference (a .right) (b .right) (c .right) .1 (x .1)) refl,
+    );
+    equality = λ a b. (
+      λ e.
+          let p = and-parts (ol .equal (a .left) (b .left)) (or .equal (a .right) (b .right)) e in
+          let u = l .equality (a .left) (b .left) .0 (p .0) in
+          let v = r .equality (a .right) (b .right) .0 (p .1) in
+          λ i. pair-of (u i) (v i),
+      λ e. and-from (ol .equal (a .left) (b .left)) (or .equal (a .right) (b .right)) (l .equality (a .left) (b .left) .1 (ap (λ (p : Pair L R). p .left) e)) (r .equality (a .right) (b .right) .1 (ap (λ (p : Pair L R). p .right) e)),
     );
   }

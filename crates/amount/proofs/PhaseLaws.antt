@@ -34,6 +34,7 @@ as-pairs = λ i. record {
   zero = phases-ops .zero;
   plus = λ a b. nested (amps-ops .plus (a .l1) (b .l1)) (amps-ops .plus (a .l2) (b .l2)) (amps-ops .plus (a .l3) (b .l3)) i;
   minus = λ b a. nested (amps-ops .minus (b .l1) (a .l1)) (amps-ops .minus (b .l2) (a .l2)) (amps-ops .minus (b .l3) (a .l3)) i;
+  equal = phases-ops .equal;
 }
 
 pub phases-laws : Laws phases-ops

@@ -7,6 +7,7 @@ use native.Mathlib.Omega.{arith}
 use lib.Bits.{bitAnd, bitOr, and-comm, or-comm, or-disjoint}
 use Rattle.std.specs.declared.option.Option.{Option}
 use Rattle.std.specs.declared.option.Option.the-variants.{Some, None}
+use Rattle.std.proofs.shelf.Tests.{eqb-true, eq-eqb}
 use Rattle.amount.specs.Arithmetic.{Laws, bind}
 use Rattle.amount.specs.Sets.{modules, union, without, modules-ops}
 use Rattle.amount.specs.declared.modules.Modules.{Modules}
@@ -90,4 +91,5 @@ modules-laws = record {
   cancels = λ a b c s p q. let x = sum-is a c s p in let y = sum-is b c s q in modules-eq a b (omega (arith, x .1, y .1));
   positive = λ a b p. let x = sum-is a b (modules-ops .zero) p in (modules-eq a (modules-ops .zero) (omega (arith, x .1)), modules-eq b (modules-ops .zero) (omega (arith, x .1)));
   difference = λ a b c. (left a b c, found a b c);
+  equality = λ a b. (λ e. modules-eq a b (eqb-true (a .names) (b .names) e), λ e. eq-eqb (a .names) (b .names) (ap names-of e));
 }

@@ -1,6 +1,8 @@
 -- What a kind of amount is: a zero, a sum that may be undefined and a difference, and the laws that they keep. Assumes nothing.
 use mathlib.Core.Path.{_≡_}
+use mathlib.Core.Bool.{Bool}
 use mathlib.Core.Logic.{_↔_}
+use Rattle.std.specs.Orderings.{Decides}
 use Rattle.std.specs.declared.option.Option.{Option}
 use Rattle.std.specs.declared.option.Option.the-variants.{Some, None}
 
@@ -11,6 +13,8 @@ pub record Ops (A : Type 0) : Type 0 where
   pub plus : A → A → Option A
   -- minus b a: b less a, where a is part of b
   pub minus : A → A → Option A
+  -- whether both are the same amount
+  pub equal : A → A → Bool
 
 -- f at the value; absent where there is none
 abbrev pub bind : {A B : Type 0} → Option A → (A → Option B) → Option B
@@ -35,3 +39,5 @@ pub record Laws {A : Type 0} (o : Ops A) : Type 0 where
   pub positive : (a b : A) → o .plus a b ≡ Some (o .zero) → (a ≡ o .zero) × (b ≡ o .zero)
   -- b less a is the c that makes b with a, and absent where there is none
   pub difference : (a b c : A) → (o .minus b a ≡ Some c) ↔ (o .plus a c ≡ Some b)
+  -- equality says yes exactly when both are the same amount
+  pub equality : (a b : A) → Decides (o .equal a b) (a ≡ b)

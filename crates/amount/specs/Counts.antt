@@ -1,7 +1,7 @@
 -- Counts below a limit, whose sum is undefined where it would reach the limit; whole amperes. Assumes nothing.
 use Prim.Native.Nat.{ℕ, _+_, _-_, _<_}
 use native.Mathlib.Decide.{decLt, decLe}
-use lib.Dec.{lit<}
+use lib.Dec.{eqb, lit<}
 use Rattle.std.specs.declared.option.Option.{Option}
 use Rattle.std.specs.declared.option.Option.the-variants.{Some, None}
 use Rattle.amount.specs.Arithmetic.{Ops, bind}
@@ -22,6 +22,7 @@ count-ops limit make number none = record {
   zero = none;
   plus = λ a b. fitted limit make (number a + number b);
   minus = λ b a. bind (given (decLe (number a) (number b)) (λ _. number b - number a)) (fitted limit make);
+  equal = λ a b. eqb (number a) (number b);
 }
 
 abbrev pub amps : (n : ℕ) → n < 65536 → Amps

@@ -1,4 +1,5 @@
 -- Pairs of amounts: sum and difference act on each side, and are there where both sides are. Assumes nothing.
+use mathlib.Core.Bool.{_&&_}
 use Rattle.std.specs.declared.option.Option.{Option}
 use Rattle.std.specs.declared.option.Option.the-variants.{Some, None}
 use Rattle.amount.specs.Arithmetic.{Ops}
@@ -22,4 +23,5 @@ pair-ops l r = record {
   zero = pair-of (l .zero) (r .zero);
   plus = sides (l .plus) (r .plus);
   minus = sides (l .minus) (r .minus);
+  equal = λ a b. l .equal (a .left) (b .left) && r .equal (a .right) (b .right);
 }

@@ -1,4 +1,5 @@
 -- Phases: three counts of amperes, each of which adds for itself; undefined where one is. Assumes nothing.
+use mathlib.Core.Bool.{_&&_}
 use Rattle.std.specs.declared.option.Option.{Option}
 use Rattle.std.specs.declared.option.Option.the-variants.{Some, None}
 use Rattle.amount.specs.Arithmetic.{Ops}
@@ -25,4 +26,5 @@ phases-ops = record {
   zero = phases-of (amps-ops .zero) (amps-ops .zero) (amps-ops .zero);
   plus = each-phase (amps-ops .plus);
   minus = each-phase (amps-ops .minus);
+  equal = λ a b. amps-ops .equal (a .l1) (b .l1) && (amps-ops .equal (a .l2) (b .l2) && amps-ops .equal (a .l3) (b .l3));
 }

@@ -4,7 +4,7 @@ use Prim.Native.Nat.{ℕ, _-_, _<_, _^_}
 use native.Mathlib.Decide.{ℕ-discrete}
 use native.Mathlib.Omega.{arith}
 use lib.Bits.{bitAnd, bitOr, or-lt}
-use lib.Dec.{lit<}
+use lib.Dec.{eqb, lit<}
 use Rattle.std.specs.declared.option.Option.{Option}
 use Rattle.amount.specs.Arithmetic.{Ops}
 use Rattle.amount.specs.Counts.{given}
@@ -31,4 +31,5 @@ modules-ops = record {
   plus = λ a b. given (ℕ-discrete (bitAnd (a .names) (b .names)) 0) (λ _. union a b);
   -- where what they share is all of a
   minus = λ b a. given (ℕ-discrete (bitAnd (a .names) (b .names)) (a .names)) (λ _. without b a);
+  equal = λ a b. eqb (a .names) (b .names);
 }

@@ -1,13 +1,12 @@
 ghost use mathlib.Core.Path.{_≡_};
-ghost use Rattle.std.specs.Orderings.{Decides};
 ghost use Rattle.amount.specs.Arithmetic.{Ops, Laws};
 
 // A kind of amount: what can be claimed, asked for, held and given back.
 pub trait Amount: Copy {
-    // zero, sum and difference, as mathematics
+    // zero, sum, difference and equality, as mathematics
     ghost ops: { Ops Self };
 
-    // the five laws of a sum, and what the difference is
+    // the five laws of a sum, and what the difference and the equality are
     law lawful: { Laws ops };
 
     fn zero() -> Self
@@ -23,5 +22,5 @@ pub trait Amount: Copy {
 
     // Whether both are the same amount.
     fn same(self, other: Self) -> bool
-        ensures { λ r. ⌜ Decides r (self ≡ other) ⌝ };
+        ensures { λ r. ⌜ r ≡ ops .equal self other ⌝ };
 }

@@ -7,12 +7,12 @@ use amount::PhasesAmount;
 use archive::ModulesArchived;
 use archive::PairArchived;
 use archive::PhasesArchived;
-use listing::ModulesListed;
-use listing::NoMemoryDebug;
-use listing::PairListed;
-use listing::PhasesListed;
 use listing::list_day;
 use std::test::*;
+use wording::ModulesListed;
+use wording::NoMemoryDebug;
+use wording::PairListed;
+use wording::PhasesListed;
 
 // The worked day.
 pub(crate) const DAY: &[u8; 90] =

@@ -10,12 +10,12 @@ use archive::PairArchived;
 use archive::PhasesArchived;
 use dayfile::Fault;
 use dayfile::Reader;
-use listing::ModulesListed;
-use listing::NoMemoryDebug;
-use listing::PairListed;
-use listing::PhasesListed;
 use listing::list_day;
 use std::test::*;
+use wording::ModulesListed;
+use wording::NoMemoryDebug;
+use wording::PairListed;
+use wording::PhasesListed;
 
 // The number and the position of the fault that ends a file of phases; its length where it reads through.
 fn ending(file: &[u8]) -> (u8, usize) {

@@ -6,4 +6,6 @@ mod days;
 #[cfg(test)]
 mod faults;
 #[cfg(test)]
+mod piles;
+#[cfg(test)]
 mod writing;

@@ -1,10 +1,10 @@
 use crate::input::read_day;
-use listing::Listed;
-use listing::NoMemoryDisplay;
-use listing::NoMemoryError;
 use listing::list_day;
 use std::error::AnyError;
 use std::io::Write;
+use wording::Listed;
+use wording::NoMemoryDisplay;
+use wording::NoMemoryError;
 
 // Prints the listing of the day file on standard input.
 pub fn list_input<A: Listed>(rt: &LibcRuntime) -> Result<(), AnyError> {

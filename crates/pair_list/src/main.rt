@@ -9,10 +9,10 @@ use archive::ModulesArchived;
 use archive::PairArchived;
 use archive::PhasesArchived;
 use console::list_input;
-use listing::ModulesListed;
-use listing::PairListed;
-use listing::PhasesListed;
 use std::error::AnyError;
+use wording::ModulesListed;
+use wording::PairListed;
+use wording::PhasesListed;
 
 fn main(rt: LibcRuntime) -> Result<(), AnyError> {
     rt.report(list_input::<Pair<Phases, Modules>>(&rt))

@@ -3,8 +3,8 @@ use amount::Phases;
 use amount::PhasesAmount;
 use archive::PhasesArchived;
 use console::list_input;
-use listing::PhasesListed;
 use std::error::AnyError;
+use wording::PhasesListed;
 
 fn main(rt: LibcRuntime) -> Result<(), AnyError> {
     rt.report(list_input::<Phases>(&rt))

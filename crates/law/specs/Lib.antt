@@ -1,0 +1,4 @@
+pub mod Book
+pub mod Law
+pub mod SafeOrder
+pub mod Tally

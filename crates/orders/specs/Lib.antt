@@ -1,0 +1,4 @@
+pub mod Orders
+pub mod Planner
+pub mod Sessions
+pub mod Theorems

@@ -1,0 +1,5 @@
+pub mod Changes
+pub mod Limits
+pub mod Piles
+pub mod Reserves
+pub mod Theorems
