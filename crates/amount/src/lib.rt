@@ -1,4 +1,6 @@
 // Kinds of amount: a zero, a partial sum, a difference and an equality, under laws that every kind shows.
+#![tactic(auto)]
+
 mod amount;
 mod amps;
 mod amps_amount;

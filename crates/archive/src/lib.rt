@@ -1,4 +1,6 @@
 // Archived amounts: each kind names its width, and its amounts are read from and written into exactly that many bytes.
+#![tactic(auto)]
+
 mod amps;
 mod archived;
 mod modules;

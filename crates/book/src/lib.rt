@@ -1,4 +1,6 @@
 // The book: 64 rows over a pile, and the calls on them.
+#![tactic(auto)]
+
 mod admission;
 mod asking;
 mod book;

@@ -1,4 +1,6 @@
 // Each refusal of each call of the book, in each state of a bay: proved to be safe, and run.
+#![tactic(auto)]
+
 #[cfg(test)]
 mod asking;
 #[cfg(test)]

@@ -1,4 +1,6 @@
 // Examples of every layer, and of every refusal: each is proved to be safe, and run.
+#![tactic(auto)]
+
 #[cfg(test)]
 mod amounts;
 #[cfg(test)]

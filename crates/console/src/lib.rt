@@ -1,4 +1,6 @@
 // What the programs share: a day file from standard input, its text to standard output.
+#![tactic(auto)]
+
 mod input;
 mod programs;
 

@@ -1,4 +1,6 @@
 // The law over whole days: what the book, as a machine, and a patient planner share.
+#![tactic(auto)]
+
 ghost use Rattle.law.specs.Law.{LawOfDays};
 
 use amount::Amount;

@@ -1,4 +1,6 @@
 // Completion orders and the planner, as mathematics: each function's contract is a theorem, of every lawful kind.
+#![tactic(auto)]
+
 ghost use Rattle.orders.specs.Theorems.{WalkComplete, PlannerAgrees};
 
 use amount::Amount;

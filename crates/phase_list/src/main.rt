@@ -1,4 +1,6 @@
 // Lists a day of phases: a day file on standard input, its records in words on standard output.
+#![tactic(auto)]
+
 use amount::Phases;
 use console::list_input;
 

@@ -1,4 +1,6 @@
 // Limits behind one interface: a pile is a store, with any caps and reserves over it.
+#![tactic(auto)]
+
 mod cap;
 mod gauge;
 mod layer;

@@ -1,4 +1,6 @@
 // Reading and writing a day file undo each other, for every archived kind.
+#![tactic(auto)]
+
 ghost use Rattle.roundtrip.specs.RoundTrip.{RoundTrip};
 
 use archive::Archived;

@@ -1,4 +1,6 @@
 // The rows of a book: what is kept for one bay, in bytes, and what each call makes of it.
+#![tactic(auto)]
+
 mod cell;
 mod effect;
 mod refusal;

@@ -1,4 +1,6 @@
 // The safety search: whether the sessions at the bays can all finish in some order, and which is the lowest-first one.
+#![tactic(auto)]
+
 mod completion;
 mod finishing;
 mod order;

@@ -1,4 +1,6 @@
 // A site's day by hand: a pile, a book over it, and calls one by one, each told on a line with its answer.
+#![tactic(auto)]
+
 mod answers;
 mod portions;
 mod steps;

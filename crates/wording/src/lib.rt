@@ -1,4 +1,6 @@
 // Amounts in words, for every archived kind that is told so.
+#![tactic(auto)]
+
 mod amounts;
 mod listed;
 mod no_memory;

@@ -8,4 +8,4 @@ use Rattle.archive.proofs.amps.AmpsArchived.read.Goals as goal
 pub returns : goal.returns
 returns c =
     let two : length c.args.from.now ≡ 2 = omega arith in
-    sym (exactly_yes 2 c.args.from.now _ (lit≤ tt) two ∙ ap (fitted 65536 amps) (number_two c.args.from.now two ∙ sym c.from-be-bytes-value.ensures) ∙ fitted_number amps_counted _)
+    sym (exactly_yes 2 c.args.from.now _ (lit≤ tt) two ∙ ap (fitted 65536 amps) (number_two c.args.from.now two ∙ sym c.from_be_bytes-value.ensures) ∙ fitted_number amps_counted _)

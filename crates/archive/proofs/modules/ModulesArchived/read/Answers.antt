@@ -10,4 +10,4 @@ use Rattle.archive.proofs.modules.ModulesArchived.read.Goals as goal
 pub returns : goal.returns
 returns c =
     let eight : length c.args.from.now ≡ 8 = omega arith in
-    sym (exactly_yes 8 c.args.from.now _ (lit≤ tt) eight ∙ ap (fitted (2 ^ 64) modules) (number_eight c.args.from.now eight ∙ sym c.from-be-bytes-names.ensures) ∙ fitted_number modules_counted _)
+    sym (exactly_yes 8 c.args.from.now _ (lit≤ tt) eight ∙ ap (fitted (2 ^ 64) modules) (number_eight c.args.from.now eight ∙ sym c.from_be_bytes-names.ensures) ∙ fitted_number modules_counted _)

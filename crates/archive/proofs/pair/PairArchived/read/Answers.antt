@@ -35,5 +35,5 @@ returns g c =
     let w = c.get-w.ensures ∙ ap₂ joined (g.met.L.Archived.wide c.W.result.left) (g.met.R.Archived.wide c.W.result.right) in
     let l = c.get.ensures ∙ g.met.L.Archived.wide c.W-2.result in
     pair_reads g.met.L.Archived.codec g.met.R.Archived.codec c.args.from.now _ _ c.get-w.result w c.if-w-gt16.false c.if-from-w.false
-    (c.in-ok-left.ensures ∙ ap g.L.Archived.decode (c.split-at.ensures.front ∙ ap (λ n. take n c.args.from.now) l))
-    (c.in-ok-right.ensures ∙ ap g.R.Archived.decode (c.split-at.ensures.back ∙ ap (λ n. drop n c.args.from.now) l))
+    (c.in_ok-left.ensures ∙ ap g.L.Archived.decode (c.split_at.ensures.front ∙ ap (λ n. take n c.args.from.now) l))
+    (c.in_ok-right.ensures ∙ ap g.R.Archived.decode (c.split_at.ensures.back ∙ ap (λ n. drop n c.args.from.now) l))

@@ -21,8 +21,8 @@ returns g c =
     let l = c.get-l.ensures ∙ g.met.L.Archived.wide c.W-2.result in
     let j = subst (λ n. n ≤ 16) w c.if-w-gt16.false in
     let k = joined_is g.L.Archived.width g.R.Archived.width j in
-    let x = c.in-ok-write.ensures.2 in
-    let y = c.in-ok-write-2.ensures.2 in
+    let x = c.in_ok-write.ensures.2 in
+    let y = c.in_ok-write-2.ensures.2 in
     let n : length c.write.new.out ≡ c.get-l.result = ap length x ∙ g.met.L.Archived.codec.long k.0 c.args.self.left ∙ sym l in
     let s = w ∙ k.2 in (
       j,

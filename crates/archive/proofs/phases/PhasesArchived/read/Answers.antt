@@ -14,7 +14,7 @@ returns-in-err-l3 c =
 pub returns : goal.returns
 returns c =
     let six : length c.args.from.now ≡ 6 = omega arith in
-    let x = c.in-ok-l1.ensures in
-    let y = c.in-ok-l2.ensures in
-    let z = c.in-ok-l3.ensures in
+    let x = c.in_ok-l1.ensures in
+    let y = c.in_ok-l2.ensures in
+    let z = c.in_ok-l3.ensures in
     (λ i. three (x i) (y i) (z i)) ∙ sym (exactly_yes 6 c.args.from.now _ (lit≤ tt) six)

@@ -4,9 +4,9 @@ use Rattle.archive.proofs.phases.PhasesArchived.write.Goals as goal
 
 pub returns : goal.returns
 returns c =
-    let x = c.in-ok-write.ensures.2 in
-    let y = c.in-ok-write-2.ensures.2 in
-    let z = c.in-ok-write-3.ensures.2 in (
+    let x = c.in_ok-write.ensures.2 in
+    let y = c.in_ok-write-2.ensures.2 in
+    let z = c.in_ok-write-3.ensures.2 in (
       omega arith,
       omega arith,
       three_written c.args.out.now _ _ _ (omega arith) (ap length x) (ap length y) ∙ ap₂ ◌++◌ x (ap₂ ◌++◌ y z),
