@@ -13,15 +13,15 @@ loop-i-init g c =
     let rows = c.args.rows.now in
     from_start (lowest_place (holds_any o) (seen (map f rows)))
 
-pub returns-then-holds-any : goal.returns-then-holds-any
-returns-then-holds-any g c =
+pub returns-then-holds_any : goal.returns-then-holds_any
+returns-then-holds_any g c =
     let o = g.A.Amount.ops in
     let f = row_of g.A.Archived.width g.A.Archived.decode o.zero in
     let rows = c.args.rows.now in
     let i = c.loop-i.i in
     let h : i < length (seen (map f rows)) = omega (arith, seen_length f rows) in
     let e = c.holds_any.ensures ∙ ap (holds_any o) (c.session.ensures ∙ sym (seen_at f rows i refl)) in
-    ap is_some (lowest_here (holds_any o) i (seen (map f rows)) None c.holds_any.result h e c.loop-i.invariant c.if-holds-any.true)
+    ap is_some (lowest_here (holds_any o) i (seen (map f rows)) None c.holds_any.result h e c.loop-i.invariant c.if-holds_any.true)
 
 pub loop-i-preserved : goal.loop-i-preserved
 loop-i-preserved g c =
@@ -31,7 +31,7 @@ loop-i-preserved g c =
     let i = c.loop-i.i in
     let h : i < length (seen (map f rows)) = omega (arith, seen_length f rows) in
     let e = c.holds_any.ensures ∙ ap (holds_any o) (c.session.ensures ∙ sym (seen_at f rows i refl)) in
-    lowest_past (holds_any o) i (seen (map f rows)) None c.holds_any.result h e c.loop-i.invariant c.if-holds-any.false
+    lowest_past (holds_any o) i (seen (map f rows)) None c.holds_any.result h e c.loop-i.invariant c.if-holds_any.false
 
 pub returns : goal.returns
 returns g c =

@@ -10,9 +10,9 @@ pub unreachable-requires : goal.unreachable-requires
 unreachable-requires g c =
     let o = g.A.Amount.ops in
     let st = state_of o g.A.Archived.width g.A.Archived.decode g.P.Pool.limits c.args.book.now in
-    let n = c.in-ok-count.field-0.count in
-    let p = slip_of c.in-ok-count.field-0.slip in
-    let t = c.in-ok-count.ensures in
+    let n = c.in_ok-count.field-0.count in
+    let p = slip_of c.in_ok-count.field-0.slip in
+    let t = c.in_ok-count.ensures in
     let spent = withdraw_granted o g.met.A.Amount.lawful st c.args.bay c.args.amount c.args.sheet.now p n (sym t.answer) in
     refused_accepted (c.in-Err.ensures.answer ∙ ap (λ s. answer o s (withdraws p)) t.after ∙ spent)
 
@@ -20,9 +20,9 @@ pub returns : goal.returns
 returns g c =
     let o = g.A.Amount.ops in
     let st = state_of o g.A.Archived.width g.A.Archived.decode g.P.Pool.limits c.args.book.now in
-    let n = c.in-ok-count.field-0.count in
-    let p = slip_of c.in-ok-count.field-0.slip in
-    let t = c.in-ok-count.ensures in
+    let n = c.in_ok-count.field-0.count in
+    let p = slip_of c.in_ok-count.field-0.slip in
+    let t = c.in_ok-count.ensures in
     let own = (granted_by o st c.args.bay c.args.amount c.args.sheet.now n p (sym t.answer)).slip in
     let back = withdraw_undoes o g.met.A.Amount.lawful st c.args.bay c.args.amount c.args.sheet.now p n (sym t.answer) in
     record {

@@ -12,23 +12,23 @@ returns-then-w-gt16 g c =
       | inr h ↦ sym (exactly_other _ c.args.from.now _ (λ e. h.1 (e ∙ sym w)))
     ]
 
-pub returns-in-err-left : goal.returns-in-err-left
-returns-in-err-left g c =
+pub returns-in_err-left : goal.returns-in_err-left
+returns-in_err-left g c =
     let w = c.get-w.ensures ∙ ap₂ joined (g.met.L.Archived.wide c.W.result.left) (g.met.R.Archived.wide c.W.result.right) in
     let l = c.get.ensures ∙ g.met.L.Archived.wide c.W-2.result in
-    c.from-residual.ensures
+    c.from_residual.ensures
     ∙ pair_reads g.met.L.Archived.codec g.met.R.Archived.codec c.args.from.now None (g.R.Archived.decode (drop g.L.Archived.width c.args.from.now)) c.get-w.result w c.if-w-gt16.false c.if-from-w.false
-    (c.in-err-left.ensures ∙ ap g.L.Archived.decode (c.split-at.ensures.front ∙ ap (λ n. take n c.args.from.now) l))
+    (c.in_err-left.ensures ∙ ap g.L.Archived.decode (c.split_at.ensures.front ∙ ap (λ n. take n c.args.from.now) l))
     refl
 
-pub returns-in-err-right : goal.returns-in-err-right
-returns-in-err-right g c =
+pub returns-in_err-right : goal.returns-in_err-right
+returns-in_err-right g c =
     let w = c.get-w.ensures ∙ ap₂ joined (g.met.L.Archived.wide c.W.result.left) (g.met.R.Archived.wide c.W.result.right) in
     let l = c.get.ensures ∙ g.met.L.Archived.wide c.W-2.result in
-    c.from-residual-in-err-right.ensures
-    ∙ pair_reads g.met.L.Archived.codec g.met.R.Archived.codec c.args.from.now (Some c.in-ok-left.left) None c.get-w.result w c.if-w-gt16.false c.if-from-w.false
-    (c.in-ok-left.ensures ∙ ap g.L.Archived.decode (c.split-at.ensures.front ∙ ap (λ n. take n c.args.from.now) l))
-    (c.in-err-right.ensures ∙ ap g.R.Archived.decode (c.split-at.ensures.back ∙ ap (λ n. drop n c.args.from.now) l))
+    c.from_residual-in_err-right.ensures
+    ∙ pair_reads g.met.L.Archived.codec g.met.R.Archived.codec c.args.from.now (Some c.in_ok-left.left) None c.get-w.result w c.if-w-gt16.false c.if-from-w.false
+    (c.in_ok-left.ensures ∙ ap g.L.Archived.decode (c.split_at.ensures.front ∙ ap (λ n. take n c.args.from.now) l))
+    (c.in_err-right.ensures ∙ ap g.R.Archived.decode (c.split_at.ensures.back ∙ ap (λ n. drop n c.args.from.now) l))
 
 pub returns : goal.returns
 returns g c =

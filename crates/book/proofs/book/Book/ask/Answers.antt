@@ -20,8 +20,8 @@ use Rattle.book.proofs.Read.{fits}
 use Rattle.book.proofs.Steps.{state, stays, changes, moves_now, change_made, change_refused, sitting_refused, sitting_ok}
 use Rattle.book.proofs.book.Book.ask.Goals as goal
 
-pub returns-in-err-next : goal.returns-in-err-next
-returns-in-err-next g c =
+pub returns-in_err-next : goal.returns-in_err-next
+returns-in_err-next g c =
     let o = g.A.Amount.ops in
     let w = g.A.Archived.width in
     let decode = g.A.Archived.decode in
@@ -32,13 +32,13 @@ returns-in-err-next g c =
     let a = c.args.amount in
     let sheet = c.args.sheet.now in
     let st = state o w decode t ls in
-    let e = c.in-err-next.field-0.0 in
-    let h = sitting_refused o w decode t ls Ask Moving refl refl i e (ask_answer o st i a sheet) refl c.in-err-next.ensures in
-    let p = err_from_is_err_and c.from-residual.result c.from-residual.ensures.1 in
+    let e = c.in_err-next.field-0.0 in
+    let h = sitting_refused o w decode t ls Ask Moving refl refl i e (ask_answer o st i a sheet) refl c.in_err-next.ensures in
+    let p = err_from_is_err_and c.from_residual.result c.from_residual.ensures.1 in
     rw (p.1, p.2) (record { answer = h; after = stays o w decode t ls (asks i a sheet) e h; sheet = ap (sheet_by o st (asks i a sheet)) h })
 
-pub returns-in-default : goal.returns-in-default
-returns-in-default g c =
+pub returns-in_default : goal.returns-in_default
+returns-in_default g c =
     let o = g.A.Amount.ops in
     let w = g.A.Archived.width in
     let decode = g.A.Archived.decode in
@@ -49,14 +49,14 @@ returns-in-default g c =
     let a = c.args.amount in
     let sheet = c.args.sheet.now in
     let st = state o w decode t ls in
-    let s = c.in-ok-next.session in
-    let x = sitting_ok o w decode t ls Ask Moving refl refl i c.in-ok-next.next s c.in-ok-next.ensures in
+    let s = c.in_ok-next.session in
+    let x = sitting_ok o w decode t ls Ask Moving refl refl i c.in_ok-next.next s c.in_ok-next.ensures in
     let through = x.through (ask_answer o st i a sheet) in
-    let h : refusal AboveClaim ≡ answer o st (asks i a sheet) = sym (through ∙ above o st i a sheet s (o.plus s.holding a) (sym c.grown.ensures ∙ c.in-default.is)) in
+    let h : refusal AboveClaim ≡ answer o st (asks i a sheet) = sym (through ∙ above o st i a sheet s (o.plus s.holding a) (sym c.grown.ensures ∙ c.in_default.is)) in
     record { answer = h; after = stays o w decode t ls (asks i a sheet) AboveClaim h; sheet = ap (sheet_by o st (asks i a sheet)) h }
 
-pub returns-in-err-take : goal.returns-in-err-take
-returns-in-err-take g c =
+pub returns-in_err-take : goal.returns-in_err-take
+returns-in_err-take g c =
     let o = g.A.Amount.ops in
     let w = g.A.Archived.width in
     let decode = g.A.Archived.decode in
@@ -67,21 +67,21 @@ returns-in-err-take g c =
     let a = c.args.amount in
     let sheet = c.args.sheet.now in
     let st = state o w decode t ls in
-    let s = c.in-ok-next.session in
-    let x = sitting_ok o w decode t ls Ask Moving refl refl i c.in-ok-next.next s c.in-ok-next.ensures in
+    let s = c.in_ok-next.session in
+    let x = sitting_ok o w decode t ls Ask Moving refl refl i c.in_ok-next.next s c.in_ok-next.ensures in
     let through = x.through (ask_answer o st i a sheet) in
     let held = c.in-Some.holding in
     let fitting = fits_claim o st i a sheet s (o.plus s.holding a) held (sym c.grown.ensures ∙ c.in-Some.is) in
-    let e = c.in-err-take.field-0.0 in
-    let y = change_refused o Short (short_place o ls s.mark a) (taken o s.mark a ls) ls (limits c.take.new.self) e c.in-err-take.ensures in
+    let e = c.in_err-take.field-0.0 in
+    let y = change_refused o Short (short_place o ls s.mark a) (taken o s.mark a ls) ls (limits c.take.new.self) e c.in_err-take.ensures in
     let h : refusal (OfLimit e) ≡ answer o st (asks i a sheet) =
     ap (λ e. refusal (OfLimit e)) y.2
     ∙ sym (through ∙ fitting.1 ∙ ap (λ p. guard_at p 9 (order_answer o (asked_pile o st s a) (asked_bays o st i s held) sheet (λ n. granted n (record { number = st.number; at = i })))) y.1) in
-    let p = err_from_is_err_and c.from-residual-in-err-take.result c.from-residual-in-err-take.ensures.1 in
+    let p = err_from_is_err_and c.from_residual-in_err-take.result c.from_residual-in_err-take.ensures.1 in
     rw (p.1, p.2) (record { answer = h; after = stays o w decode t ls (asks i a sheet) (OfLimit e) h; sheet = ap (sheet_by o st (asks i a sheet)) h })
 
-pub returns-in-default-completion-order : goal.returns-in-default-completion-order
-returns-in-default-completion-order g c =
+pub returns-in_default-completion_order : goal.returns-in_default-completion_order
+returns-in_default-completion_order g c =
     let o = g.A.Amount.ops in
     let w = g.A.Archived.width in
     let decode = g.A.Archived.decode in
@@ -92,24 +92,24 @@ returns-in-default-completion-order g c =
     let a = c.args.amount in
     let sheet = c.args.sheet.now in
     let st = state o w decode t ls in
-    let s = c.in-ok-next.session in
-    let x = sitting_ok o w decode t ls Ask Moving refl refl i c.in-ok-next.next s c.in-ok-next.ensures in
+    let s = c.in_ok-next.session in
+    let x = sitting_ok o w decode t ls Ask Moving refl refl i c.in_ok-next.next s c.in_ok-next.ensures in
     let through = x.through (ask_answer o st i a sheet) in
     let held = c.in-Some.holding in
     let fitting = fits_claim o st i a sheet s (o.plus s.holding a) held (sym c.grown.ensures ∙ c.in-Some.is) in
     let slip : machine.Slip = record { number = st.number; at = i } in
-    let y = change_made o Short (short_place o ls s.mark a) (taken o s.mark a ls) ls (limits c.take.new.self) c.in-ok-take.ensures in
+    let y = change_made o Short (short_place o ls s.mark a) (taken o s.mark a ls) ls (limits c.take.new.self) c.in_ok-take.ensures in
     let bays = asked_bays o st i s held in
     let pile = asked_pile o st s a in
     let reply : ℕ → Reply = λ n. granted n slip in
     let searched : answer o st (asks i a sheet) ≡ order_answer o pile bays sheet reply = through ∙ fitting.1 ∙ ap (λ p. guard_at p 9 (order_answer o pile bays sheet reply)) y.0 in
-    let z = c.completion-order.result in
-    let k : option_map bays_of z ≡ completing o pile bays = c.completion-order.ensures.order ∙ ap₂ (completing o) y.1 (c.seat.ensures ∙ ap (λ u. set u i (Some (with_holding s held))) c.seat-all.ensures) in
-    let h : refusal PutOff ≡ answer o st (asks i a sheet) = not_found o pile bays sheet reply z k c.in-default-completion-order.is ∙ sym searched in
+    let z = c.completion_order.result in
+    let k : option_map bays_of z ≡ completing o pile bays = c.completion_order.ensures.order ∙ ap₂ (completing o) y.1 (c.seat.ensures ∙ ap (λ u. set u i (Some (with_holding s held))) c.seat_all.ensures) in
+    let h : refusal PutOff ≡ answer o st (asks i a sheet) = not_found o pile bays sheet reply z k c.in_default-completion_order.is ∙ sym searched in
     record { answer = h; after = stays o w decode t ls (asks i a sheet) PutOff h; sheet = ap (sheet_by o st (asks i a sheet)) h }
 
-pub returns-in-err-count : goal.returns-in-err-count
-returns-in-err-count g c =
+pub returns-in_err-count : goal.returns-in_err-count
+returns-in_err-count g c =
     let o = g.A.Amount.ops in
     let w = g.A.Archived.width in
     let decode = g.A.Archived.decode in
@@ -120,22 +120,22 @@ returns-in-err-count g c =
     let a = c.args.amount in
     let sheet = c.args.sheet.now in
     let st = state o w decode t ls in
-    let s = c.in-ok-next.session in
-    let x = sitting_ok o w decode t ls Ask Moving refl refl i c.in-ok-next.next s c.in-ok-next.ensures in
+    let s = c.in_ok-next.session in
+    let x = sitting_ok o w decode t ls Ask Moving refl refl i c.in_ok-next.next s c.in_ok-next.ensures in
     let through = x.through (ask_answer o st i a sheet) in
     let held = c.in-Some.holding in
     let fitting = fits_claim o st i a sheet s (o.plus s.holding a) held (sym c.grown.ensures ∙ c.in-Some.is) in
     let slip : machine.Slip = record { number = st.number; at = i } in
-    let y = change_made o Short (short_place o ls s.mark a) (taken o s.mark a ls) ls (limits c.take.new.self) c.in-ok-take.ensures in
+    let y = change_made o Short (short_place o ls s.mark a) (taken o s.mark a ls) ls (limits c.take.new.self) c.in_ok-take.ensures in
     let bays = asked_bays o st i s held in
     let pile = asked_pile o st s a in
     let reply : ℕ → Reply = λ n. granted n slip in
     let searched : answer o st (asks i a sheet) ≡ order_answer o pile bays sheet reply = through ∙ fitting.1 ∙ ap (λ p. guard_at p 9 (order_answer o pile bays sheet reply)) y.0 in
-    let z = c.completion-order.result in
-    let k : option_map bays_of z ≡ completing o pile bays = c.completion-order.ensures.order ∙ ap₂ (completing o) y.1 (c.seat.ensures ∙ ap (λ u. set u i (Some (with_holding s held))) c.seat-all.ensures) in
-    let v = c.in-err-count.ensures in
-    let h : refusal ShortSheet ≡ answer o st (asks i a sheet) = no_sheet o pile bays sheet reply z c.in-Some-completion-order.order k c.in-Some-completion-order.is v.0 ∙ sym searched in
-    let p = err_from_is_err_and c.from-residual-in-err-count.result c.from-residual-in-err-count.ensures.1 in
+    let z = c.completion_order.result in
+    let k : option_map bays_of z ≡ completing o pile bays = c.completion_order.ensures.order ∙ ap₂ (completing o) y.1 (c.seat.ensures ∙ ap (λ u. set u i (Some (with_holding s held))) c.seat_all.ensures) in
+    let v = c.in_err-count.ensures in
+    let h : refusal ShortSheet ≡ answer o st (asks i a sheet) = no_sheet o pile bays sheet reply z c.in-Some-completion_order.order k c.in-Some-completion_order.is v.0 ∙ sym searched in
+    let p = err_from_is_err_and c.from_residual-in_err-count.result c.from_residual-in_err-count.ensures.1 in
     rw (p.1, p.2) (record { answer = h; after = stays o w decode t ls (asks i a sheet) ShortSheet h; sheet = v.1 ∙ ap (sheet_by o st (asks i a sheet)) h })
 
 pub returns : goal.returns
@@ -150,23 +150,23 @@ returns g c =
     let a = c.args.amount in
     let sheet = c.args.sheet.now in
     let st = state o w decode t ls in
-    let s = c.in-ok-next.session in
-    let x = sitting_ok o w decode t ls Ask Moving refl refl i c.in-ok-next.next s c.in-ok-next.ensures in
+    let s = c.in_ok-next.session in
+    let x = sitting_ok o w decode t ls Ask Moving refl refl i c.in_ok-next.next s c.in_ok-next.ensures in
     let through = x.through (ask_answer o st i a sheet) in
     let held = c.in-Some.holding in
     let fitting = fits_claim o st i a sheet s (o.plus s.holding a) held (sym c.grown.ensures ∙ c.in-Some.is) in
     let slip : machine.Slip = record { number = st.number; at = i } in
-    let y = change_made o Short (short_place o ls s.mark a) (taken o s.mark a ls) ls (limits c.take.new.self) c.in-ok-take.ensures in
+    let y = change_made o Short (short_place o ls s.mark a) (taken o s.mark a ls) ls (limits c.take.new.self) c.in_ok-take.ensures in
     let bays = asked_bays o st i s held in
     let pile = asked_pile o st s a in
     let reply : ℕ → Reply = λ n. granted n slip in
     let searched : answer o st (asks i a sheet) ≡ order_answer o pile bays sheet reply = through ∙ fitting.1 ∙ ap (λ p. guard_at p 9 (order_answer o pile bays sheet reply)) y.0 in
-    let z = c.completion-order.result in
-    let k : option_map bays_of z ≡ completing o pile bays = c.completion-order.ensures.order ∙ ap₂ (completing o) y.1 (c.seat.ensures ∙ ap (λ u. set u i (Some (with_holding s held))) c.seat-all.ensures) in
-    let v = c.in-ok-count.ensures in
-    let n = c.in-ok-count.count in
-    let order = c.in-Some-completion-order.order in
-    let is = c.in-Some-completion-order.is in
+    let z = c.completion_order.result in
+    let k : option_map bays_of z ≡ completing o pile bays = c.completion_order.ensures.order ∙ ap₂ (completing o) y.1 (c.seat.ensures ∙ ap (λ u. set u i (Some (with_holding s held))) c.seat_all.ensures) in
+    let v = c.in_ok-count.ensures in
+    let n = c.in_ok-count.count in
+    let order = c.in-Some-completion_order.order in
+    let is = c.in-Some-completion_order.is in
     let h : accepted (reply n) ≡ answer o st (asks i a sheet) = laid_on o pile bays sheet reply z order k is n v.0 v.1 ∙ sym searched in
     let few = fits w t.shut x.opened in
     let codec = g.met.A.Archived.codec in

@@ -11,8 +11,8 @@ use Rattle.rows.specs.declared.row.RowState.TheVariants.{Empty}
 use Rattle.book.proofs.Steps.{state, stays, changes, same_limits, by_tag, change_made, change_refused, sitting_refused, sitting_ok}
 use Rattle.book.proofs.book.Book.end.Goals as goal
 
-pub returns-in-err-next : goal.returns-in-err-next
-returns-in-err-next g c =
+pub returns-in_err-next : goal.returns-in_err-next
+returns-in_err-next g c =
     let o = g.A.Amount.ops in
     let w = g.A.Archived.width in
     let decode = g.A.Archived.decode in
@@ -21,12 +21,12 @@ returns-in-err-next g c =
     let ls = limits c.args.self.now.pile in
     let i = c.args.bay in
     let st = state o w decode t ls in
-    let h = sitting_refused o w decode t ls End Empty refl refl i c.in-err-next.field-0.0 (end_answer o st) refl c.in-err-next.ensures in
-    let p = err_from_is_err_and c.from-residual.result c.from-residual.ensures.1 in
-    rw (p.1, p.2) (record { answer = h; after = stays o w decode t ls (ends i) c.in-err-next.field-0.0 h })
+    let h = sitting_refused o w decode t ls End Empty refl refl i c.in_err-next.field-0.0 (end_answer o st) refl c.in_err-next.ensures in
+    let p = err_from_is_err_and c.from_residual.result c.from_residual.ensures.1 in
+    rw (p.1, p.2) (record { answer = h; after = stays o w decode t ls (ends i) c.in_err-next.field-0.0 h })
 
-pub returns-in-err-give : goal.returns-in-err-give
-returns-in-err-give g c =
+pub returns-in_err-give : goal.returns-in_err-give
+returns-in_err-give g c =
     let o = g.A.Amount.ops in
     let w = g.A.Archived.width in
     let decode = g.A.Archived.decode in
@@ -35,12 +35,12 @@ returns-in-err-give g c =
     let ls = limits c.args.self.now.pile in
     let i = c.args.bay in
     let st = state o w decode t ls in
-    let s = c.in-ok-next.session in
-    let x = sitting_ok o w decode t ls End Empty refl refl i c.in-ok-next.next s c.in-ok-next.ensures in
-    let y = change_refused o Torn (torn_place o st.pile s.mark s.holding) (given_back o s.mark s.holding st.pile) st.pile (limits c.give.new.self) _ c.in-err-give.ensures in
+    let s = c.in_ok-next.session in
+    let x = sitting_ok o w decode t ls End Empty refl refl i c.in_ok-next.next s c.in_ok-next.ensures in
+    let y = change_refused o Torn (torn_place o st.pile s.mark s.holding) (given_back o s.mark s.holding st.pile) st.pile (limits c.give.new.self) _ c.in_err-give.ensures in
     let h = ap (λ e. refusal (OfLimit e)) y.2 ∙ sym (x.through (end_answer o st) ∙ ap (λ p. guard_at p 14 (accepted done)) y.1) in
-    let p = err_from_is_err_and c.from-residual-in-err-give.result c.from-residual-in-err-give.ensures.1 in
-    rw (p.1, p.2) (record { answer = h; after = same_limits o w decode t ls (limits c.give.new.self) y.3 ∙ stays o w decode t ls (ends i) (OfLimit c.in-err-give.field-0.0) h })
+    let p = err_from_is_err_and c.from_residual-in_err-give.result c.from_residual-in_err-give.ensures.1 in
+    rw (p.1, p.2) (record { answer = h; after = same_limits o w decode t ls (limits c.give.new.self) y.3 ∙ stays o w decode t ls (ends i) (OfLimit c.in_err-give.field-0.0) h })
 
 pub returns : goal.returns
 returns g c =
@@ -52,9 +52,9 @@ returns g c =
     let ls = limits c.args.self.now.pile in
     let i = c.args.bay in
     let st = state o w decode t ls in
-    let s = c.in-ok-next.session in
-    let x = sitting_ok o w decode t ls End Empty refl refl i c.in-ok-next.next s c.in-ok-next.ensures in
-    let y = change_made o Torn (torn_place o st.pile s.mark s.holding) (given_back o s.mark s.holding st.pile) st.pile (limits c.give.new.self) c.in-ok-give.ensures in
+    let s = c.in_ok-next.session in
+    let x = sitting_ok o w decode t ls End Empty refl refl i c.in_ok-next.next s c.in_ok-next.ensures in
+    let y = change_made o Torn (torn_place o st.pile s.mark s.holding) (given_back o s.mark s.holding st.pile) st.pile (limits c.give.new.self) c.in_ok-give.ensures in
     let h : accepted done ≡ answer o st (ends i) = sym (x.through (end_answer o st) ∙ ap (λ p. guard_at p 14 (accepted done)) y.0) in
     let F : List (Limit g.row.A.Denot) → State g.row.A.Denot = λ ls. record { shut = st.shut; number = st.number; pile = ls; rows = set st.rows i machine.empty } in
     let m = ap F (y.1 ∙ sym (ap (give_back o st.pile) x.at_rest)) in

@@ -15,8 +15,8 @@ use Rattle.book.specs.Tables.{row_in}
 use Rattle.book.proofs.Steps.{state, stays, changes, same_limits, rests_now, less_is, change_made, change_refused, sitting_refused, sitting_ok}
 use Rattle.book.proofs.book.Book.give.Goals as goal
 
-pub returns-in-err-next : goal.returns-in-err-next
-returns-in-err-next g c =
+pub returns-in_err-next : goal.returns-in_err-next
+returns-in_err-next g c =
     let o = g.A.Amount.ops in
     let w = g.A.Archived.width in
     let decode = g.A.Archived.decode in
@@ -25,12 +25,12 @@ returns-in-err-next g c =
     let ls = limits c.args.self.now.pile in
     let i = c.args.bay in
     let st = state o w decode t ls in
-    let h = sitting_refused o w decode t ls Give AtRest refl refl i c.in-err-next.field-0.0 (give_answer o st c.args.amount) refl c.in-err-next.ensures in
-    let p = err_from_is_err_and c.from-residual.result c.from-residual.ensures.1 in
-    rw (p.1, p.2) (record { answer = h; after = stays o w decode t ls (gives i c.args.amount) c.in-err-next.field-0.0 h })
+    let h = sitting_refused o w decode t ls Give AtRest refl refl i c.in_err-next.field-0.0 (give_answer o st c.args.amount) refl c.in_err-next.ensures in
+    let p = err_from_is_err_and c.from_residual.result c.from_residual.ensures.1 in
+    rw (p.1, p.2) (record { answer = h; after = stays o w decode t ls (gives i c.args.amount) c.in_err-next.field-0.0 h })
 
-pub returns-in-default : goal.returns-in-default
-returns-in-default g c =
+pub returns-in_default : goal.returns-in_default
+returns-in_default g c =
     let o = g.A.Amount.ops in
     let w = g.A.Archived.width in
     let decode = g.A.Archived.decode in
@@ -40,13 +40,13 @@ returns-in-default g c =
     let i = c.args.bay in
     let st = state o w decode t ls in
     let a = c.args.amount in
-    let s = c.in-ok-next.session in
-    let x = sitting_ok o w decode t ls Give AtRest refl refl i c.in-ok-next.next s c.in-ok-next.ensures in
-    let h : refusal MoreThanHeld ≡ answer o st (gives i a) = sym (x.through (give_answer o st a) ∙ ap (λ m. guard (not (is_some m)) 11 (guard_at (torn_place o st.pile s.mark a) 14 (accepted done))) (sym c.minus.ensures ∙ c.in-default.is)) in
+    let s = c.in_ok-next.session in
+    let x = sitting_ok o w decode t ls Give AtRest refl refl i c.in_ok-next.next s c.in_ok-next.ensures in
+    let h : refusal MoreThanHeld ≡ answer o st (gives i a) = sym (x.through (give_answer o st a) ∙ ap (λ m. guard (not (is_some m)) 11 (guard_at (torn_place o st.pile s.mark a) 14 (accepted done))) (sym c.minus.ensures ∙ c.in_default.is)) in
     record { answer = h; after = stays o w decode t ls (gives i a) MoreThanHeld h }
 
-pub returns-in-err-give : goal.returns-in-err-give
-returns-in-err-give g c =
+pub returns-in_err-give : goal.returns-in_err-give
+returns-in_err-give g c =
     let o = g.A.Amount.ops in
     let w = g.A.Archived.width in
     let decode = g.A.Archived.decode in
@@ -56,16 +56,16 @@ returns-in-err-give g c =
     let i = c.args.bay in
     let st = state o w decode t ls in
     let a = c.args.amount in
-    let s = c.in-ok-next.session in
-    let x = sitting_ok o w decode t ls Give AtRest refl refl i c.in-ok-next.next s c.in-ok-next.ensures in
-    let y = change_refused o Torn (torn_place o st.pile s.mark a) (given_back o s.mark a st.pile) st.pile (limits c.give.new.self) _ c.in-err-give.ensures in
+    let s = c.in_ok-next.session in
+    let x = sitting_ok o w decode t ls Give AtRest refl refl i c.in_ok-next.next s c.in_ok-next.ensures in
+    let y = change_refused o Torn (torn_place o st.pile s.mark a) (given_back o s.mark a st.pile) st.pile (limits c.give.new.self) _ c.in_err-give.ensures in
     let h =
     ap (λ e. refusal (OfLimit e)) y.2
     ∙ sym (x.through (give_answer o st a)
     ∙ ap (λ m. guard (not (is_some m)) 11 (guard_at (torn_place o st.pile s.mark a) 14 (accepted done))) (sym c.minus.ensures ∙ c.in-Some.is)
     ∙ ap (λ p. guard_at p 14 (accepted done)) y.1) in
-    let p = err_from_is_err_and c.from-residual-in-err-give.result c.from-residual-in-err-give.ensures.1 in
-    rw (p.1, p.2) (record { answer = h; after = same_limits o w decode t ls (limits c.give.new.self) y.3 ∙ stays o w decode t ls (gives i a) (OfLimit c.in-err-give.field-0.0) h })
+    let p = err_from_is_err_and c.from_residual-in_err-give.result c.from_residual-in_err-give.ensures.1 in
+    rw (p.1, p.2) (record { answer = h; after = same_limits o w decode t ls (limits c.give.new.self) y.3 ∙ stays o w decode t ls (gives i a) (OfLimit c.in_err-give.field-0.0) h })
 
 pub returns : goal.returns
 returns g c =
@@ -78,11 +78,11 @@ returns g c =
     let i = c.args.bay in
     let st = state o w decode t ls in
     let a = c.args.amount in
-    let s = c.in-ok-next.session in
+    let s = c.in_ok-next.session in
     let rest = c.in-Some.rest in
     let less : o.minus s.holding a ≡ _ = sym c.minus.ensures ∙ c.in-Some.is in
-    let x = sitting_ok o w decode t ls Give AtRest refl refl i c.in-ok-next.next s c.in-ok-next.ensures in
-    let y = change_made o Torn (torn_place o st.pile s.mark a) (given_back o s.mark a st.pile) st.pile (limits c.give.new.self) c.in-ok-give.ensures in
+    let x = sitting_ok o w decode t ls Give AtRest refl refl i c.in_ok-next.next s c.in_ok-next.ensures in
+    let y = change_made o Torn (torn_place o st.pile s.mark a) (given_back o s.mark a st.pile) st.pile (limits c.give.new.self) c.in_ok-give.ensures in
     let h : accepted done ≡ answer o st (gives i a) =
     sym (x.through (give_answer o st a)
     ∙ ap (λ m. guard (not (is_some m)) 11 (guard_at (torn_place o st.pile s.mark a) 14 (accepted done))) less

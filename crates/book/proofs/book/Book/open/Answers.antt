@@ -17,8 +17,8 @@ use Rattle.book.specs.Tables.{row_in, is_shut}
 use Rattle.book.proofs.Steps.{state, stays, changes, by_tag, calm_at, open_through, slip_stops, tall_told, tall_none}
 use Rattle.book.proofs.book.Book.open.Goals as goal
 
-pub returns-in-err-next : goal.returns-in-err-next
-returns-in-err-next g c =
+pub returns-in_err-next : goal.returns-in_err-next
+returns-in_err-next g c =
     let o = g.A.Amount.ops in
     let w = g.A.Archived.width in
     let decode = g.A.Archived.decode in
@@ -30,11 +30,11 @@ returns-in-err-next g c =
     let k = c.args.claim in
     let st = state o w decode t ls in
     let r = row_in t i in
-    let free = sym c.slip-out.ensures ∙ c.if-slip-out.false in
-    let through = open_through o w decode t ls i m k c.in-ok-known.ensures c.if-mark-gt15.false free in
-    let e = c.in-err-next.field-0.0 in
-    let h = open_refused o st m k r.state (session_in w decode o.zero r) (amount_in w decode o.zero r.portion) (calm_at o w decode t ls i free) e c.in-err-next.ensures ∙ sym through in
-    let p = err_from_is_err_and c.from-residual-in-err-next.result c.from-residual-in-err-next.ensures.1 in
+    let free = sym c.slip_out.ensures ∙ c.if-slip_out.false in
+    let through = open_through o w decode t ls i m k c.in_ok-known.ensures c.if-mark-gt15.false free in
+    let e = c.in_err-next.field-0.0 in
+    let h = open_refused o st m k r.state (session_in w decode o.zero r) (amount_in w decode o.zero r.portion) (calm_at o w decode t ls i free) e c.in_err-next.ensures ∙ sym through in
+    let p = err_from_is_err_and c.from_residual-in_err-next.result c.from_residual-in_err-next.ensures.1 in
     rw (p.1, p.2) (record { answer = h; after = stays o w decode t ls (opens i m k) e h })
 
 pub returns-in-Some : goal.returns-in-Some
@@ -50,9 +50,9 @@ returns-in-Some g c =
     let k = c.args.claim in
     let st = state o w decode t ls in
     let r = row_in t i in
-    let free = sym c.slip-out.ensures ∙ c.if-slip-out.false in
-    let through = open_through o w decode t ls i m k c.in-ok-known.ensures c.if-mark-gt15.false free in
-    let turns = open_turned o st m k r.state (session_in w decode o.zero r) (amount_in w decode o.zero r.portion) c.in-ok-next.next c.in-ok-next.ensures in
+    let free = sym c.slip_out.ensures ∙ c.if-slip_out.false in
+    let through = open_through o w decode t ls i m k c.in_ok-known.ensures c.if-mark-gt15.false free in
+    let turns = open_turned o st m k r.state (session_in w decode o.zero r) (amount_in w decode o.zero r.portion) c.in_ok-next.next c.in_ok-next.ensures in
     let told = tall_told (tall_place o st.pile m k) c.in-Some.place (sym c.in-Some.is ∙ c.tall.ensures) in
     let h = ap refusal c.from.ensures ∙ sym (through ∙ turns.1 ∙ told) in
     record { answer = h; after = stays o w decode t ls (opens i m k) c.from.result h }
@@ -70,12 +70,12 @@ returns g c =
     let k = c.args.claim in
     let st = state o w decode t ls in
     let r = row_in t i in
-    let free = sym c.slip-out.ensures ∙ c.if-slip-out.false in
-    let through = open_through o w decode t ls i m k c.in-ok-known.ensures c.if-mark-gt15.false free in
-    let turns = open_turned o st m k r.state (session_in w decode o.zero r) (amount_in w decode o.zero r.portion) c.in-ok-next.next c.in-ok-next.ensures in
-    let none = tall_none (tall_place o st.pile m k) c.tall.result c.tall.ensures c.in-default.is in
+    let free = sym c.slip_out.ensures ∙ c.if-slip_out.false in
+    let through = open_through o w decode t ls i m k c.in_ok-known.ensures c.if-mark-gt15.false free in
+    let turns = open_turned o st m k r.state (session_in w decode o.zero r) (amount_in w decode o.zero r.portion) c.in_ok-next.next c.in_ok-next.ensures in
+    let none = tall_none (tall_place o st.pile m k) c.tall.result c.tall.ensures c.in_default.is in
     let h : accepted done ≡ answer o st (opens i m k) = sym (through ∙ turns.1 ∙ ap (λ p. guard_at p 7 (accepted done)) none) in
-    let few = fits w t.shut (known_ok st.shut i c.in-ok-known.ensures).0 in
+    let few = fits w t.shut (known_ok st.shut i c.in_ok-known.ensures).0 in
     let codec = g.met.A.Archived.codec in
     let claim = reads_written w g.A.Archived.bytes decode o.zero codec few k r.claim c.write.new.self c.write.ensures in
     let zero = reads_written w g.A.Archived.bytes decode o.zero codec few c.zero.result r.holding c.write-2.new.self c.write-2.ensures ∙ c.zero.ensures in
@@ -83,8 +83,8 @@ returns g c =
     let row = ap (λ x. F x (amount_in w decode o.zero c.write-2.new.self)) claim ∙ ap (F k) zero in
     record { answer = h; after = changes o w decode t ls (opens i m k) done i _ ls (F k o.zero) h (by_tag o w decode t ls _ AtRest turns.0 ∙ row) refl }
 
-pub returns-then-slip-out : goal.returns-then-slip-out
-returns-then-slip-out g c =
+pub returns-then-slip_out : goal.returns-then-slip_out
+returns-then-slip_out g c =
     let o = g.A.Amount.ops in
     let w = g.A.Archived.width in
     let decode = g.A.Archived.decode in
@@ -95,11 +95,11 @@ returns-then-slip-out g c =
     let m = c.args.mark in
     let k = c.args.claim in
     let st = state o w decode t ls in
-    let h = slip_stops o w decode t ls i m k c.in-ok-known.ensures c.if-mark-gt15.false (sym c.slip-out.ensures ∙ c.if-slip-out.true) in
+    let h = slip_stops o w decode t ls i m k c.in_ok-known.ensures c.if-mark-gt15.false (sym c.slip_out.ensures ∙ c.if-slip_out.true) in
     record { answer = h; after = stays o w decode t ls (opens i m k) Slipped h }
 
 pub bounds-self-bay : goal.bounds-self-bay
-bounds-self-bay g c = leb-false 64 c.args.bay (known_ok (is_shut g.A.Archived.width c.args.self.now.table) c.args.bay c.in-ok-known.ensures).1
+bounds-self-bay g c = leb-false 64 c.args.bay (known_ok (is_shut g.A.Archived.width c.args.self.now.table) c.args.bay c.in_ok-known.ensures).1
 
 pub bounds-self-bay-2 : goal.bounds-self-bay-2
-bounds-self-bay-2 g c = leb-false 64 c.args.bay (known_ok (is_shut g.A.Archived.width c.args.self.now.table) c.args.bay c.in-ok-known.ensures).1
+bounds-self-bay-2 g c = leb-false 64 c.args.bay (known_ok (is_shut g.A.Archived.width c.args.self.now.table) c.args.bay c.in_ok-known.ensures).1

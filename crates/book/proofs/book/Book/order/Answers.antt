@@ -10,8 +10,8 @@ use Rattle.book.proofs.Found.{not_found, no_sheet, laid_on, sheet_filled}
 use Rattle.book.proofs.Steps.{state}
 use Rattle.book.proofs.book.Book.order.Goals as goal
 
-pub returns-in-default : goal.returns-in-default
-returns-in-default g c =
+pub returns-in_default : goal.returns-in_default
+returns-in_default g c =
     let o = g.A.Amount.ops in
     let w = g.A.Archived.width in
     let decode = g.A.Archived.decode in
@@ -20,15 +20,15 @@ returns-in-default g c =
     let st = state o w decode t ls in
     let sheet = c.args.sheet.now in
     let bays = seen st.rows in
-    let opened = sym c.is_shut.ensures ∙ c.if-is-shut.false in
+    let opened = sym c.is_shut.ensures ∙ c.if-is_shut.false in
     let through = ap (λ b. guard b 1 (order_answer o ls bays sheet ordered)) opened in
-    let x = c.completion-order.result in
-    let k : option_map bays_of x ≡ completing o ls bays = c.completion-order.ensures.order ∙ ap (completing o ls) c.seat-all.ensures in
-    let h : refusal PutOff ≡ answer o st (orders sheet) = not_found o ls bays sheet ordered x k c.in-default.is ∙ sym through in
+    let x = c.completion_order.result in
+    let k : option_map bays_of x ≡ completing o ls bays = c.completion_order.ensures.order ∙ ap (completing o ls) c.seat_all.ensures in
+    let h : refusal PutOff ≡ answer o st (orders sheet) = not_found o ls bays sheet ordered x k c.in_default.is ∙ sym through in
     record { answer = h; after = ap (moved o st (orders sheet)) h; sheet = ap (sheet_by o st (orders sheet)) h }
 
-pub returns-in-err-count : goal.returns-in-err-count
-returns-in-err-count g c =
+pub returns-in_err-count : goal.returns-in_err-count
+returns-in_err-count g c =
     let o = g.A.Amount.ops in
     let w = g.A.Archived.width in
     let decode = g.A.Archived.decode in
@@ -37,13 +37,13 @@ returns-in-err-count g c =
     let st = state o w decode t ls in
     let sheet = c.args.sheet.now in
     let bays = seen st.rows in
-    let opened = sym c.is_shut.ensures ∙ c.if-is-shut.false in
+    let opened = sym c.is_shut.ensures ∙ c.if-is_shut.false in
     let through = ap (λ b. guard b 1 (order_answer o ls bays sheet ordered)) opened in
-    let x = c.completion-order.result in
-    let k : option_map bays_of x ≡ completing o ls bays = c.completion-order.ensures.order ∙ ap (completing o ls) c.seat-all.ensures in
-    let y = c.in-err-count.ensures in
+    let x = c.completion_order.result in
+    let k : option_map bays_of x ≡ completing o ls bays = c.completion_order.ensures.order ∙ ap (completing o ls) c.seat_all.ensures in
+    let y = c.in_err-count.ensures in
     let h : refusal ShortSheet ≡ answer o st (orders sheet) = no_sheet o ls bays sheet ordered x c.in-Some.order k c.in-Some.is y.0 ∙ sym through in
-    let p = err_from_is_err_and c.from-residual.result c.from-residual.ensures.1 in
+    let p = err_from_is_err_and c.from_residual.result c.from_residual.ensures.1 in
     rw (p.1, p.2) (record { answer = h; after = ap (moved o st (orders sheet)) h; sheet = y.1 ∙ ap (sheet_by o st (orders sheet)) h })
 
 pub returns : goal.returns
@@ -56,11 +56,11 @@ returns g c =
     let st = state o w decode t ls in
     let sheet = c.args.sheet.now in
     let bays = seen st.rows in
-    let opened = sym c.is_shut.ensures ∙ c.if-is-shut.false in
+    let opened = sym c.is_shut.ensures ∙ c.if-is_shut.false in
     let through = ap (λ b. guard b 1 (order_answer o ls bays sheet ordered)) opened in
-    let x = c.completion-order.result in
-    let k : option_map bays_of x ≡ completing o ls bays = c.completion-order.ensures.order ∙ ap (completing o ls) c.seat-all.ensures in
-    let y = c.in-ok-count.ensures in
-    let n = c.in-ok-count.count in
+    let x = c.completion_order.result in
+    let k : option_map bays_of x ≡ completing o ls bays = c.completion_order.ensures.order ∙ ap (completing o ls) c.seat_all.ensures in
+    let y = c.in_ok-count.ensures in
+    let n = c.in_ok-count.count in
     let h : accepted (ordered n) ≡ answer o st (orders sheet) = laid_on o ls bays sheet ordered x c.in-Some.order k c.in-Some.is n y.0 y.1 ∙ sym through in
     record { answer = h; after = ap (moved o st (orders sheet)) h; sheet = sheet_filled o ls bays sheet ordered x c.in-Some.order k c.in-Some.is _ y.2 ∙ ap (sheet_by o st (orders sheet)) h }

@@ -72,8 +72,8 @@ returns-in-Ok-give g c =
     let y = change_made o Torn (torn_place o st.pile u.mark a) (given_back o u.mark a st.pile) st.pile (limits c.give.new.self) c.in-Ok-give.ensures in
     let h : accepted done ≡ answer o st (withdraws (slip_of slip)) = sym (through ∙ ap (λ p. guard_at p 14 (accepted done)) y.0) in
     let rest = unwrap_or (o.minus u.holding a) u.holding in
-    let left : c.unwrap-or.result ≡ rest = c.unwrap-or.ensures ∙ ap (λ z. unwrap_or z c.read-holding.result) c.minus.ensures ∙ ap (λ z. unwrap_or (o.minus z a) z) c.read-holding.ensures in
+    let left : c.unwrap_or.result ≡ rest = c.unwrap_or.ensures ∙ ap (λ z. unwrap_or z c.read-holding.result) c.minus.ensures ∙ ap (λ z. unwrap_or (o.minus z a) z) c.read-holding.ensures in
     let F : List (Limit g.row.A.Denot) → machine.Row g.row.A.Denot → State g.row.A.Denot = λ ls r. record { shut = st.shut; number = st.number; pile = ls; rows = set st.rows slip.bay r } in
     let m = ap₂ F (y.1 ∙ sym (ap (give_back o st.pile) moves)) (less_or o u a ∙ sym (ap (withdrawn o) moves)) in
-    let read = reads_written w g.A.Archived.bytes decode o.zero g.met.A.Archived.codec (fits w t.shut x.opened) c.unwrap-or.result (row_in t slip.bay).holding c.write.new.self c.write.ensures ∙ left in
+    let read = reads_written w g.A.Archived.bytes decode o.zero g.met.A.Archived.codec (fits w t.shut x.opened) c.unwrap_or.result (row_in t slip.bay).holding c.write.new.self c.write.ensures ∙ left in
     record { answer = h; after = changes o w decode t ls (withdraws (slip_of slip)) done slip.bay _ (limits c.give.new.self) (machine.rest (with_holding u rest)) h (rests_now o w decode t ls slip.bay _ rest u x.turns refl refl read refl) m; slip = tt }

@@ -7,12 +7,12 @@ use Rattle.search.proofs.trial.Trial.safe_order.Goals as goal
 pub loop-n-init : goal.loop-n-init
 loop-n-init g c = (refl, none_named g.A.Amount.ops (g.P.Pool.limits c.args.pile.now) c.args.self.now.bays c.args.self.now.full, refl)
 
-pub returns-in-default : goal.returns-in-default
-returns-in-default g c =
+pub returns-in_default : goal.returns-in_default
+returns-in_default g c =
     let o = g.A.Amount.ops in
     let all = safe_order o (g.P.Pool.limits c.args.pile.now) c.args.self.now.bays in
     record {
-      named = all_named o all c.loop-n.n _ c.loop-n.named (g.P.Pool.limits c.loop-n.trial) c.loop-n.self.bays c.in-default.ensures.bay c.loop-n.invariant.1;
+      named = all_named o all c.loop-n.n _ c.loop-n.named (g.P.Pool.limits c.loop-n.trial) c.loop-n.self.bays c.in_default.ensures.bay c.loop-n.invariant.1;
       left = c.loop-n.invariant.2;
     }
 

@@ -4,5 +4,5 @@ use Rattle.wording.proofs.amounts.PairListed.list.Goals as goal
 
 pub returns : goal.returns
 returns g c =
-    joins (string_bytes c.args.out.now) _ _ _ c.in-ok-list.ensures
-    (joins (string_bytes c.list.new.out) _ _ _ c.in-ok-push-str.ensures.bytes c.in-ok-list-2.ensures refl) refl
+    joins (string_bytes c.args.out.now) _ _ _ c.in_ok-list.ensures
+    (joins (string_bytes c.list.new.out) _ _ _ c.in_ok-push_str.ensures.bytes c.in_ok-list-2.ensures refl) refl
