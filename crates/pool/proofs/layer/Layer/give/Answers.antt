@@ -13,7 +13,7 @@ returns-in_ok-give-in-Some g c w e =
     let self = c.args.self.now in
     let l = gauged w self.gauge in
     let h = give_allowed k m a l c.in-Some.rest (rw e (sym c.in-Some.ensures)) in
-    layer_changes k (lacks k m a) (shrunk k m a) (g.P.Pool.limits self.below) (g.P.Pool.limits c.give.new.self) l _ h.0 h.1 c.in_ok-give.ensures
+    layer_changes k (lacks k m a) (shrunk k m a) (g.P.Pool.limits self.below) (g.P.Pool.limits c.give.new.self) l _ h.0 h.1 c.in_ok-give-in-Some.ensures
 
 pub returns-in_ok-give-in-None : goal.returns-in_ok-give-in-None
 returns-in_ok-give-in-None g c w e =
@@ -33,7 +33,7 @@ returns-in_err-give-in-Some g c w e =
     let self = c.args.self.now in
     let l = gauged w self.gauge in
     let p = err_from_is_err_and c.from_residual.result c.from_residual.ensures.1 in
-    rw (p.1, p.2) (layer_below k (lacks k m a) (shrunk k m a) (g.P.Pool.limits self.below) (g.P.Pool.limits c.give.new.self) l _ c.in_err-give.ensures)
+    rw (p.1, p.2) (layer_below k (lacks k m a) (shrunk k m a) (g.P.Pool.limits self.below) (g.P.Pool.limits c.give.new.self) l _ c.in_err-give-in-Some.ensures)
 
 pub returns-in_err-give-in-None : goal.returns-in_err-give-in-None
 returns-in_err-give-in-None g c w e =

@@ -13,7 +13,7 @@ returns-in_ok-take-in-Some g c w e =
     let self = c.args.self.now in
     let l = gauged w self.gauge in
     let h = take_allowed k m a l c.in-Some.more (rw e (sym c.in-Some.ensures)) in
-    layer_changes k (λ x. over k m (k.plus x.out a) x.bound) (grown k m a) (g.P.Pool.limits self.below) (g.P.Pool.limits c.take.new.self) l _ h.0 h.1 c.in_ok-take.ensures
+    layer_changes k (λ x. over k m (k.plus x.out a) x.bound) (grown k m a) (g.P.Pool.limits self.below) (g.P.Pool.limits c.take.new.self) l _ h.0 h.1 c.in_ok-take-in-Some.ensures
 
 pub returns-in_ok-take-in-None : goal.returns-in_ok-take-in-None
 returns-in_ok-take-in-None g c w e =
@@ -33,7 +33,7 @@ returns-in_err-take-in-Some g c w e =
     let self = c.args.self.now in
     let l = gauged w self.gauge in
     let p = err_from_is_err_and c.from_residual.result c.from_residual.ensures.1 in
-    rw (p.1, p.2) (layer_below k (λ x. over k m (k.plus x.out a) x.bound) (grown k m a) (g.P.Pool.limits self.below) (g.P.Pool.limits c.take.new.self) l _ c.in_err-take.ensures)
+    rw (p.1, p.2) (layer_below k (λ x. over k m (k.plus x.out a) x.bound) (grown k m a) (g.P.Pool.limits self.below) (g.P.Pool.limits c.take.new.self) l _ c.in_err-take-in-Some.ensures)
 
 pub returns-in_err-take-in-None : goal.returns-in_err-take-in-None
 returns-in_err-take-in-None g c w e =
