@@ -7,8 +7,7 @@ use Rattle.amount.specs.Arithmetic.{Ops, Laws}
 use Rattle.pool.specs.Limits.{Limit, given_back, lacks, short_place, shrunk, taken, torn_place, with_out, within}
 use Rattle.orders.proofs.Planned.{place_none}
 use Rattle.orders.proofs.Walked.{true_false}
-use Rattle.orders.specs.Sessions.{bay, open_bays, with_holding}
-use Rattle.orders.specs.declared.session.Session.{Session}
+use Rattle.orders.specs.Sessions.{Session, bay, open_bays, with_holding}
 use Rattle.law.proofs.Rows.{bay_row, none_given, nowhere, open_bound, pass, pass_at, refused_accepted, row_rest}
 use Rattle.law.specs.Book.{Answer, Row, Slip, State, accepted, answer, ask_answer, asked, asked_bays, asked_pile, asks, confirm_answer, confirms, done, empty, grant_answer, granted, guard, is_moving, less_held, moved, moving, rest, row, seen, seen_row, slip_bay, step, withdraw_answer, withdrawn, withdraws}
 use Rattle.law.specs.SafeOrder.{safe_order}
