@@ -1,6 +1,6 @@
 -- A kind whose values are those of a lawful kind, one for one, is lawful.
 use Rattle.std.specs.Prelude.{◌≡◌, Some, None, Option, refl}
-use Rattle.std.proofs.Common.{sym, ap, subst, ◌∙◌}
+use Rattle.std.proofs.Common.{sym, ap, ◌∙◌}
 use Rattle.std.specs.Option.{option_map}
 use Rattle.amount.specs.Arithmetic.{Ops, Laws, bind}
 use Rattle.amount.specs.Partial.{never, some_inj}

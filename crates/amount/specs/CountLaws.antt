@@ -1,11 +1,11 @@
 -- Counts below any limit keep the laws; whole amperes are such counts.
-use Rattle.std.specs.Prelude.{◌≡◌, ℕ, ◌+◌, ◌-◌, ◌<◌, ◌≤◌, Some, None, Option, refl}
+use Rattle.std.specs.Prelude.{◌≡◌, ℕ, ◌+◌, ◌-◌, ◌<◌, ◌≤◌, Some, None, refl}
 use Rattle.std.proofs.Common.{sym, ap, ◌∙◌, add_comm, add_assoc, arith}
 use Rattle.std.proofs.Math.Bridge.{le_prop}
 use Rattle.std.proofs.Math.Decide.{dec_lt, dec_le}
 use Rattle.std.proofs.lemmas.Bool.{eqb-true, eq-eqb}
 use Rattle.amount.specs.Arithmetic.{Ops, Laws, bind}
-use Rattle.amount.specs.Counts.{given, fitted, count_ops, amps, amps_number, amps_ops}
+use Rattle.amount.specs.Counts.{fitted, count_ops, amps, amps_number, amps_ops}
 use Rattle.amount.specs.declared.amps.Amps.{Amps}
 use Rattle.amount.specs.Partial.{some_inj, never, given_yes, given_no}
 

@@ -3,7 +3,7 @@ use Rattle.std.specs.Prelude.{◌≡◌, Some, None, Option, refl}
 use Rattle.std.proofs.Common.{sym, ap, ◌∙◌}
 use Rattle.std.proofs.lemmas.Bool.{and_parts, and_from}
 use Rattle.amount.specs.Arithmetic.{Ops, Laws, bind}
-use Rattle.amount.specs.Pairs.{pair_of, both, sides, pair_ops}
+use Rattle.amount.specs.Pairs.{pair_of, both, pair_ops}
 use Rattle.amount.specs.declared.pair.Pair.{Pair}
 use Rattle.amount.specs.Partial.{never, some_inj}
 

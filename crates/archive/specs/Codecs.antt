@@ -1,24 +1,23 @@
 -- Each kind's bytes and amounts are one for one.
-use Rattle.std.specs.Prelude.{◌≡◌, ℕ, ◌+◌, ◌^◌, ◌<◌, ◌≤◌, List, [], ◌∷◌, ◌++◌, length, take, drop, Some, None, Option, refl}
+use Rattle.std.specs.Prelude.{◌≡◌, ℕ, ◌^◌, ◌<◌, ◌≤◌, List, ◌++◌, length, take, drop, Some, Option, refl}
 use Rattle.std.proofs.Common.{sym, ap, ap₂, subst, ◌∙◌, inl, inr, arith, lit≤, length-append, length-drop, take-append-drop}
 use Rattle.std.specs.Option.{option_map}
 use Rattle.std.proofs.lemmas.Int.Digits.{number_lt}
 use Rattle.std.proofs.ByRecursion.{All-append, All-take, All-drop}
 use Rattle.std.proofs.lemmas.List.{take_at, take_all, drop_at, drop-drop, length-take-le}
 use Rattle.std.proofs.lemmas.Bool.{cases_eq}
-use Rattle.amount.specs.Counts.{fitted, amps, amps_number}
+use Rattle.amount.specs.Counts.{fitted}
 use Rattle.amount.specs.Pairs.{both, pair_of}
 use Rattle.amount.specs.Phases.{three}
-use Rattle.amount.specs.Sets.{modules}
 use Rattle.amount.specs.declared.pair.Pair.{Pair}
 use Rattle.amount.specs.Carried.{mapped_some, some_mapped}
 use Rattle.amount.specs.CountLaws.{Counted, fitted_number, fitted_is, fitted_some, amps_counted}
 use Rattle.amount.specs.PairLaws.{both_some}
 use Rattle.amount.specs.PhaseLaws.{to, from, nested}
-use Rattle.amount.specs.SetLaws.{names_of, modules_counted}
-use Rattle.archive.specs.Codec.{Codec, exactly}
+use Rattle.amount.specs.SetLaws.{modules_counted}
+use Rattle.archive.specs.Codec.{Codec}
 use Rattle.archive.specs.Kinds.{count_decode, amps_bytes, amps_decode, phases_bytes, phases_decode, modules_bytes, modules_decode, pair_bytes, pair_decode}
-use Rattle.archive.specs.Numbers.{Bytes, number_of, big_endian}
+use Rattle.archive.specs.Numbers.{number_of, big_endian}
 use Rattle.archive.specs.Widths.{joined}
 use Rattle.archive.specs.Digits.{length_be, bytes_be, number_be, be_number}
 use Rattle.archive.specs.Exactly.{exactly_yes, exactly_other, exactly_some, joined_is}

@@ -1,7 +1,7 @@
 -- A number and its bytes, high byte first, undo each other at every width.
-use Rattle.std.specs.Prelude.{◌≡◌, ℕ, zero, suc, ◌+◌, ◌*◌, ◌/◌, ◌%◌, ◌^◌, ◌<◌, ◌≤◌, List, [], ◌∷◌, ◌++◌, length, take, slice_index, slice_index_or, refl}
-use Rattle.std.proofs.Common.{sym, ap, ap₂, ◌∙◌, div-add-mod', mod-lt, zero-lt-suc, add-one, arith}
-use Rattle.std.proofs.lemmas.Int.Digits.{number_push, number_lt, number_more}
+use Rattle.std.specs.Prelude.{◌≡◌, ℕ, zero, suc, ◌+◌, ◌*◌, ◌/◌, ◌%◌, ◌^◌, ◌<◌, List, [], ◌∷◌, ◌++◌, length, take, slice_index, slice_index_or, refl}
+use Rattle.std.proofs.Common.{sym, ap, ap₂, ◌∙◌, add-one, arith}
+use Rattle.std.proofs.lemmas.Int.Digits.{number_push, number_more}
 use Rattle.std.proofs.ByRecursion.{All-push, All-get_or, All-take}
 use Rattle.std.proofs.lemmas.List.{length_push, take_more, take_all, length-take-le, nil_from_length}
 use Rattle.archive.specs.Numbers.{Bytes, number_of, big_endian}

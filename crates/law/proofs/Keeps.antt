@@ -1,13 +1,13 @@
 -- What each call keeps.
-use Rattle.std.proofs.Common.{◌≡◌, ℕ, zero, suc, ◌+◌, ◌<◌, ◌≤◌, Bool, true, false, cond, not, ◌&&◌, eqb, ltb, leb, ◌≢◌, ◌⊎◌, List, [], ◌∷◌, map, length, get_or, set, replicate, is_some, Some, None, Option, sym, refl, ap, ◌∙◌, subst, inl, inr, arith, length-set, get_or-set_other, get_or-set_same, set-set, eqb-true, leb-false}
+use Rattle.std.proofs.Common.{◌≡◌, ℕ, zero, suc, ◌<◌, ◌≤◌, true, false, not, eqb, leb, List, [], ◌∷◌, length, set, is_some, Some, None, Option, sym, refl, ap, ◌∙◌, subst, inl, inr, arith, length-set, get_or-set_same, set-set, eqb-true, leb-false}
 use lib.ListN.{length-map}
 use lib.Seq.{set-get_or, map-set}
 use Rattle.std.proofs.lemmas.Bool.{le-leb}
 use Rattle.amount.specs.Arithmetic.{Laws, Ops}
-use Rattle.pool.specs.Limits.{Bound, Idle, Limit, bounds, given_back, lowest_place, over, part, short_place, taken, tall_place, within}
-use Rattle.orders.specs.Orders.{Order, lowest_walk}
+use Rattle.pool.specs.Limits.{Bound, Idle, Limit, bounds, given_back, lowest_place, over, part, short_place, tall_place, within}
+use Rattle.orders.specs.Orders.{Order}
 use Rattle.orders.specs.Sessions.{Bays, Session, WithinCeilings, bay, held_under, open_bays, share, short_under, with_holding}
-use Rattle.law.specs.Book.{asked_pile, asked_bays, Answer, Call, Reply, Row, Slip, State, accepted, after, all_in, answer, ask_answer, asked, asks, confirm_answer, confirmed, confirms, done, empty, end_answer, ends, gave, give_answer, give_back, gives, grant_answer, granted, is_moving, less_held, moved, moving, new, no_rows, open_answer, opens, orders, refused, rest, row, seen, seen_row, slip_bay, step, with_mark, withdraw_answer, withdrawn, withdraws}
+use Rattle.law.specs.Book.{asked_pile, asked_bays, Answer, Call, Reply, Row, Slip, State, accepted, after, all_in, answer, ask_answer, asked, asks, confirm_answer, confirmed, confirms, done, empty, end_answer, ends, gave, give_answer, give_back, gives, grant_answer, is_moving, less_held, moved, moving, new, no_rows, open_answer, opens, orders, refused, rest, row, seen, seen_row, slip_bay, step, with_mark, withdraw_answer, withdrawn, withdraws}
 use Rattle.law.specs.Law.{Sums}
 use Rattle.law.proofs.Opening.{total_open, order_open}
 use Rattle.law.proofs.Pile.{bounds_taken, bounds_given, matches_taken, matches_given, idle_sums, total_back, total_beside, short_same}

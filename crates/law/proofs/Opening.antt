@@ -1,5 +1,5 @@
 -- A new session whose claim is not Tall can be last in an order.
-use Rattle.std.proofs.Common.{◌≡◌, ℕ, zero, suc, ◌+◌, ◌<◌, ◌≤◌, Bool, true, false, cond, not, ◌&&◌, ◌≢◌, List, [], ◌∷◌, map, length, get_or, set, Some, None, Option, sym, refl, ap, ◌∙◌, subst, arith, length-set, get_or-set_other, get_or-set_same, set-set}
+use Rattle.std.proofs.Common.{◌≡◌, ℕ, ◌<◌, Bool, true, false, cond, ◌≢◌, List, [], ◌∷◌, length, set, Some, None, sym, refl, ap, ◌∙◌, subst, length-set, get_or-set_other, get_or-set_same, set-set}
 use lib.Seq.{set_comm}
 use Rattle.amount.specs.Arithmetic.{Laws, Ops}
 use Rattle.pool.specs.Limits.{Bound, lowest_place, over, within}

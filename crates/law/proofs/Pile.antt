@@ -1,12 +1,12 @@
 -- The pile keeps the sums of the bays.
-use Rattle.std.proofs.Common.{◌≡◌, ℕ, zero, suc, ◌+◌, ◌<◌, ◌≤◌, Bool, true, false, cond, not, ◌&&◌, List, [], ◌∷◌, map, length, get_or, set, Some, None, Option, sym, refl, ap, ◌∙◌, subst, arith}
+use Rattle.std.proofs.Common.{◌≡◌, ℕ, Bool, true, false, cond, List, [], ◌∷◌, set, Some, None, Option, sym, refl, ap, ◌∙◌, arith}
 use Rattle.amount.specs.Arithmetic.{Laws, Ops}
 use Rattle.pool.specs.Limits.{Bound, Idle, Limit, bounds, given_back, short_place, taken, torn_place, with_out, within}
 use Rattle.orders.specs.Sessions.{Bays, Session, add, bay, emptied, held_under, share, short_under}
 use Rattle.law.specs.Law.{Sums}
 use Rattle.orders.proofs.Bays.{some_none, out_split, out_put, share_on, share_off}
 use Rattle.orders.proofs.Planned.{place_none, none_place}
-use Rattle.orders.proofs.Sums.{add_assoc, leq_eq, within_leq, leq_within}
+use Rattle.orders.proofs.Sums.{add_assoc, leq_within}
 use Rattle.amount.specs.Partial.{some_inj}
 
 module _ {A : Type 0} (o : Ops A) (L : Laws o) where

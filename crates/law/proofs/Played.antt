@@ -3,7 +3,7 @@ use Rattle.std.proofs.Common.{◌≡◌, ℕ, suc, List, [], ◌∷◌, set, Som
 use Rattle.amount.specs.Arithmetic.{Ops, Laws}
 use Rattle.pool.specs.Limits.{Bound}
 use Rattle.orders.specs.Orders.{Next, Order}
-use Rattle.orders.specs.Sessions.{with_holding, Bays, emptied, AllEmpty, share, held_under, add}
+use Rattle.orders.specs.Sessions.{with_holding, Bays, AllEmpty, share, held_under, add}
 use Rattle.orders.proofs.Sums.{add_zero, add_zero_right, leq_eq}
 use Rattle.orders.proofs.Bays.{bay_put, put_put}
 use Rattle.orders.proofs.Planned.{short_down, out_hand_on, full_need}

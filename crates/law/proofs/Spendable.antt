@@ -1,5 +1,5 @@
 -- The slip of a granted ask is taken: by confirm, and by withdraw, after which the book is as it was.
-use Rattle.std.proofs.Common.{◌≡◌, ℕ, ◌<◌, Bool, true, false, cond, not, ◌&&◌, eqb, ltb, leb, List, [], ◌∷◌, map, length, get_or, set, is_some, Some, None, Option, sym, refl, ap, ◌∙◌, arith, get_or-set_same, set-set}
+use Rattle.std.proofs.Common.{◌≡◌, ℕ, ◌<◌, Bool, true, false, cond, not, eqb, ltb, leb, List, [], ◌∷◌, length, set, is_some, Some, None, Option, sym, refl, ap, ◌∙◌, arith, get_or-set_same, set-set}
 use lib.ListN.{length-map}
 use lib.Seq.{set-get_or}
 use Rattle.std.proofs.lemmas.Bool.{eq-eqb}

@@ -1,16 +1,16 @@
 -- The tally, kept from arguments and answers alone, tells what the rows hold.
-use Rattle.std.proofs.Common.{◌≡◌, ℕ, ◌+◌, Bool, true, false, cond, not, eqb, leb, List, [], ◌∷◌, map, length, get_or, set, is_some, Some, None, Option, sym, refl, ap, ◌∙◌, subst}
+use Rattle.std.proofs.Common.{◌≡◌, ℕ, ◌+◌, false, cond, not, eqb, leb, List, [], ◌∷◌, map, set, is_some, Some, None, Option, sym, refl, ap, ◌∙◌}
 use lib.ListN.{get_or-map}
 use lib.Seq.{map-set}
 use Rattle.std.specs.Option.{option_map}
 use Rattle.amount.specs.Arithmetic.{Ops, Laws, bind}
-use Rattle.pool.specs.Limits.{Bound, lowest_place, part}
+use Rattle.pool.specs.Limits.{Bound, lowest_place}
 use Rattle.orders.specs.Sessions.{Session, with_holding}
-use Rattle.law.specs.Book.{Row, empty, rest, moving, seen_row, seen, row, is_moving, slip_bay, Call, opens, asks, confirms, withdraws, gives, ends, orders, all_in, Reply, Answer, refused, accepted, State, guard, confirm_answer, withdraw_answer, give_answer, answer, asked, confirmed, less_held, withdrawn, gave, effect, moved, step, after}
+use Rattle.law.specs.Book.{Row, empty, rest, moving, seen_row, seen, row, is_moving, slip_bay, Call, opens, asks, confirms, withdraws, gives, ends, orders, all_in, Reply, Answer, refused, accepted, State, guard, confirm_answer, withdraw_answer, answer, asked, confirmed, withdrawn, gave, effect, moved, step, after}
 use Rattle.law.specs.Law.{kept, has_portion}
 use Rattle.law.specs.Tally.{Noted, Tally, session_of, sessions, at_bay, holding_now, adds, takes_off, forgets, takes_back, noted_call, note}
-use Rattle.law.proofs.Keeps.{Inv, Grant, grant_of, inv_step}
-use Rattle.law.proofs.Rows.{refused_accepted, pass, none_given, nowhere}
+use Rattle.law.proofs.Keeps.{Inv, grant_of, inv_step}
+use Rattle.law.proofs.Rows.{pass, none_given, nowhere}
 use Rattle.orders.proofs.Walked.{true_false}
 
 -- what the tally has of a row

@@ -1,8 +1,8 @@
 -- The search on a trial copy of the pile is the walk on the bays.
-use Rattle.std.proofs.Common.{◌≡◌, ℕ, zero, suc, ◌+◌, Bool, true, false, cond, not, List, [], ◌∷◌, length, get_or, set, Some, None, Ok, Err, Option, sym, refl, ap, ◌∙◌, subst}
+use Rattle.std.proofs.Common.{◌≡◌, ℕ, zero, suc, Bool, true, false, List, [], ◌∷◌, length, set, Some, None, Ok, Err, Option, sym, refl, ap, ◌∙◌, subst}
 use lib.Seq.{set-get_or}
 use Rattle.amount.specs.Arithmetic.{Laws, Ops}
-use Rattle.pool.specs.Limits.{Bound, Limit, bounds, lowest_place, short_place, torn_place, given_back, unless}
+use Rattle.pool.specs.Limits.{Bound, Limit, bounds, lowest_place, short_place, given_back, unless}
 use Rattle.orders.specs.Orders.{lowest, lowest_walk, ready, walk}
 use Rattle.orders.specs.Sessions.{Bays, Session, add, bay, emptied, held_under, short_under}
 use Rattle.law.specs.Law.{Sums}

@@ -5,7 +5,7 @@ use Rattle.pool.specs.Limits.{Bound, Limit, bounds, lowest_place, Idle}
 use Rattle.orders.specs.Orders.{Order, LowestFirst}
 use Rattle.orders.specs.Planner.{Succeeds}
 use Rattle.orders.specs.Sessions.{Session, Bays, bay, held_under}
-use Rattle.law.specs.Book.{Row, empty, row, Slip, Call, asks, confirms, ends, orders, Reply, ordered, Answer, refused, accepted, State, answer, step, after, filled, sheet_after, new}
+use Rattle.law.specs.Book.{empty, row, Call, asks, confirms, ends, orders, ordered, Answer, refused, accepted, State, answer, step, after, filled, sheet_after, new}
 use Rattle.law.specs.Tally.{Noted, Tally, sessions, note, noted_call, blank}
 
 -- out under each limit is the sum of the holdings of the sessions whose marks it watches

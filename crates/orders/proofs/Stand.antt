@@ -1,9 +1,9 @@
 -- The theorems on orders and the planner.
-use Rattle.std.proofs.Common.{◌≡◌, ℕ, List, length, sym}
+use Rattle.std.proofs.Common.{ℕ, List, length}
 use Rattle.amount.specs.Arithmetic.{Ops, Laws}
 use Rattle.pool.specs.Limits.{Bound}
 use Rattle.orders.specs.Orders.{Order, LowestFirst, lowest_walk}
-use Rattle.orders.specs.Sessions.{Bays, open_bays}
+use Rattle.orders.specs.Sessions.{Bays}
 use Rattle.orders.specs.Theorems.{WalkComplete, PlannerAgrees}
 use Rattle.orders.proofs.Bays.{dom_refl}
 use Rattle.orders.proofs.Named.{names_once, lowest_unique}

@@ -1,5 +1,5 @@
 -- The sum of amounts that may be undefined is a total commutative monoid; `Leq` is its order.
-use Rattle.std.proofs.Common.{◌≡◌, ℕ, Bool, true, false, is_some, Some, None, Option, sym, refl, ap, ◌∙◌, arith}
+use Rattle.std.proofs.Common.{◌≡◌, ℕ, true, is_some, Some, None, Option, sym, refl, ap, ◌∙◌, arith}
 use Rattle.amount.specs.Arithmetic.{Laws, Ops, bind}
 use Rattle.pool.specs.Limits.{within}
 use Rattle.orders.specs.Sessions.{add}

@@ -1,5 +1,5 @@
 -- Sessions at bays, and what they hold under a limit. Assumes nothing.
-use Rattle.std.specs.Prelude.{◌≡◌, ℕ, suc, Bool, true, cond, List, [], ◌∷◌, Some, None, Option, slice_index_or, slice_set}
+use Rattle.std.specs.Prelude.{◌≡◌, ℕ, suc, true, cond, List, [], ◌∷◌, Some, None, Option, slice_index_or, slice_set}
 use Rattle.amount.specs.Arithmetic.{Ops, bind}
 use Rattle.pool.specs.Limits.{Bound, lowest_place, within, over}
 

@@ -1,5 +1,5 @@
 -- Worked points, as answers of the machine. Assumes nothing.
-use Rattle.std.specs.Prelude.{◌≡◌, ℕ, ◌^◌, ◌<◌, true, false, List, [], ◌∷◌, replicate, Some, None, Option}
+use Rattle.std.specs.Prelude.{◌≡◌, ℕ, ◌^◌, ◌<◌, true, false, List, [], ◌∷◌, replicate, Some, None}
 use Rattle.std.proofs.Common.{lit<}
 use Rattle.std.specs.Option.{option_map}
 use Rattle.amount.specs.Arithmetic.{Ops}

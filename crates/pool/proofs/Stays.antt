@@ -1,9 +1,9 @@
 -- Marks and ceilings stay; places are told as bytes.
-use Rattle.std.proofs.Common.{◌≡◌, ℕ, ◌+◌, ◌≤◌, min, Bool, true, false, cond, not, List, [], ◌∷◌, ◌++◌, map, length, replicate, Some, None, Ok, Err, Option, Result, sym, refl, ap, ◌∙◌, ap₂, arith, length-append}
+use Rattle.std.proofs.Common.{◌≡◌, ℕ, ◌+◌, Bool, true, false, cond, not, List, [], ◌∷◌, map, replicate, Some, None, Ok, Option, sym, refl, ap, ◌∙◌, ap₂, arith, length-append}
 use lib.ListN.{length-replicate}
 use Rattle.amount.specs.Arithmetic.{Ops}
-use Rattle.pool.specs.Limits.{Limit, limit, Bound, bounds, every_number, told, told_place, over, with_out, grown, shrunk, unless}
-use Rattle.pool.specs.Theorems.{BoundsStay, stacked, ToldAsBytes}
+use Rattle.pool.specs.Limits.{Limit, limit, bounds, every_number, told, told_place, over, with_out, grown, shrunk, unless}
+use Rattle.pool.specs.Theorems.{BoundsStay, ToldAsBytes}
 use Rattle.pool.specs.Places.{lowest_above}
 
 module _ {A : Type 0} (o : Ops A) where

@@ -1,13 +1,13 @@
 -- One limit more above a pile: what is then asked of it and done to it.
 use Rattle.std.specs.Prelude.{◌≡◌, ℕ, Bool, true, false, cond, not, ◌&&◌, List, [], ◌∷◌, ◌++◌, map, length, is_some, Some, None, Ok, Err, Option, Result, refl}
-use Rattle.std.proofs.Common.{sym, ap, ◌∙◌, arith}
+use Rattle.std.proofs.Common.{ap, ◌∙◌}
 use Rattle.std.specs.Option.{option_or}
 use Rattle.std.proofs.lemmas.List.{map-append}
 use Rattle.amount.specs.Arithmetic.{Ops}
 use Rattle.amount.specs.Partial.{never, some_inj}
 use Rattle.pool.specs.declared.limit_fault.LimitFault.{LimitFault}
 use Rattle.pool.specs.Changes.{Changed, fault_at}
-use Rattle.pool.specs.Limits.{Limit, limit, lowest_place, part, within, over, lacks, with_out, grown, shrunk, unless, whole_of, Grounded, Idle, bounded, room}
+use Rattle.pool.specs.Limits.{Limit, lowest_place, part, within, over, lacks, with_out, grown, shrunk, unless, whole_of, Grounded, Idle, bounded, room}
 use Rattle.pool.specs.Places.{lowest_push}
 
 pub grounded_push : {A : Type 0} (ls : List (Limit A)) (l : Limit A) → Grounded ls → Grounded (ls ++ (l ∷ []))

@@ -1,4 +1,4 @@
-use Rattle.std.proofs.Common.{◌≡◌, ◌<◌, take, drop, Some, None, sym, refl, ap, ◌∙◌, subst, ap₂, inl, inr}
+use Rattle.std.proofs.Common.{◌<◌, take, drop, Some, None, sym, refl, ap, ◌∙◌, subst, ap₂, inl, inr}
 use Rattle.archive.specs.Widths.{joined}
 use Rattle.archive.specs.Codecs.{pair_reads}
 use Rattle.archive.specs.Exactly.{exactly_wide, exactly_other}

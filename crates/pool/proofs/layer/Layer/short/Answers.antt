@@ -1,4 +1,3 @@
-use Rattle.std.proofs.Common.{◌≡◌, length, Some, sym}
 use Rattle.pool.specs.Limits.{over}
 use Rattle.pool.specs.Piles.{gauged}
 use Rattle.pool.specs.Places.{place_push}
