@@ -5,7 +5,7 @@ use Rattle.amount.specs.Arithmetic.{Ops}
 use Rattle.pool.specs.Limits.{Limit, part, bounded, taken, short_place}
 use Rattle.orders.proofs.Bays.{some_none}
 use Rattle.orders.specs.Sessions.{with_holding}
-use Rattle.orders.specs.declared.session.Session.{Session}
+use Rattle.orders.specs.Sessions.{Session}
 use Rattle.law.specs.Book.{State, Row, row, rest, moving, seen, seen_row, Reply, granted, refused, accepted, guard, guard_at, asks, asked, asked_pile, asked_bays, order_answer, grant_answer, with_mark, moved, filled, sheet_by}
 use Rattle.law.specs.SafeOrder.{safe_order}
 

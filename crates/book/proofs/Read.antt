@@ -5,7 +5,7 @@ use Rattle.std.proofs.lemmas.Bool.{leb-true}
 use Rattle.amount.specs.Arithmetic.{Ops, bind}
 use Rattle.pool.specs.Limits.{lowest_place, tall_place}
 use Rattle.orders.proofs.Walked.{true_false}
-use Rattle.orders.specs.declared.session.Session.{Session}
+use Rattle.orders.specs.Sessions.{Session}
 use Rattle.law.specs.Book.{Answer, refused, accepted, done, guard, guard_at, open_answer, State, is_moving, slip_bay, row, seen, seen_row}
 use Rattle.law.specs.Book as machine
 use Rattle.law.proofs.Rows.{nowhere, none_given}

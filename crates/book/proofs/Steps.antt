@@ -8,7 +8,7 @@ use Rattle.pool.specs.Limits.{Limit, told, told_place, unless, given_back, torn_
 use Rattle.pool.specs.declared.limit_fault.LimitFault.{LimitFault}
 use Rattle.orders.proofs.Bays.{some_none}
 use Rattle.orders.specs.Sessions.{with_holding}
-use Rattle.orders.specs.declared.session.Session.{Session}
+use Rattle.orders.specs.Sessions.{Session}
 use Rattle.law.specs.Book.{Answer, refused, accepted, done, guard, guard_at, State, Call, Reply, is_moving, slip_bay, row, seen_row, opens, open_answer, answer, moved, step, less_held}
 use Rattle.law.specs.Book as machine
 use Rattle.rows.specs.Cells.{amount_in}

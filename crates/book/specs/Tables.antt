@@ -1,6 +1,6 @@
 -- The rows of a book, and what a call meets there before it begins. Assumes nothing.
 use Rattle.std.specs.Prelude.{ℕ, Bool, true, false, cond, not, ◌||◌, List, [], map, is_some, Some, None, Ok, Err, Option, Result, ◌==◌, nat_le, slice_index_or}
-use Rattle.orders.specs.declared.session.Session.{Session}
+use Rattle.orders.specs.Sessions.{Session}
 use Rattle.law.specs.Book.{seen_row, slip_bay}
 use Rattle.law.specs.Book as machine
 use Rattle.rows.specs.Effects.{turned}

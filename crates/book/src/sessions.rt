@@ -12,8 +12,8 @@ use rows::{Refusal, RowCall, turn};
 impl<A: Archived, P: Pool<A>> Book<A, P> {
     // A session at an empty bay, for a firm's mark, with the most that it may hold.
     pub fn open(&mut self, bay: u8, mark: u8, claim: A) -> Result<(), Refusal>
-        ensures answer { of_done result ≡ answer A.Amount.ops (state_of A.Amount.ops width decode limits self.old) (opens bay mark claim) }
-        ensures after { state_of A.Amount.ops width decode limits self.new ≡ step A.Amount.ops (state_of A.Amount.ops width decode limits self.old) (opens bay mark claim) }
+        ensures answer { of_done result ≡ answer A.Amount.ops (state_of A.Amount.ops A.Archived.width A.Archived.decode P.Pool.limits self.old) (opens bay mark claim) }
+        ensures after { state_of A.Amount.ops A.Archived.width A.Archived.decode P.Pool.limits self.new ≡ step A.Amount.ops (state_of A.Amount.ops A.Archived.width A.Archived.decode P.Pool.limits self.old) (opens bay mark claim) }
     {
         self.table.known::<A>(bay)?;
         if mark > 15 {
@@ -36,8 +36,8 @@ impl<A: Archived, P: Pool<A>> Book<A, P> {
 
     // Gives back a part of what the session holds.
     pub fn give(&mut self, bay: u8, amount: A) -> Result<(), Refusal>
-        ensures answer { of_done result ≡ answer A.Amount.ops (state_of A.Amount.ops width decode limits self.old) (gives bay amount) }
-        ensures after { state_of A.Amount.ops width decode limits self.new ≡ step A.Amount.ops (state_of A.Amount.ops width decode limits self.old) (gives bay amount) }
+        ensures answer { of_done result ≡ answer A.Amount.ops (state_of A.Amount.ops A.Archived.width A.Archived.decode P.Pool.limits self.old) (gives bay amount) }
+        ensures after { state_of A.Amount.ops A.Archived.width A.Archived.decode P.Pool.limits self.new ≡ step A.Amount.ops (state_of A.Amount.ops A.Archived.width A.Archived.decode P.Pool.limits self.old) (gives bay amount) }
     {
         let (next, session) = self.table.sitting::<A>(bay, RowCall::Give)?;
         let Some(rest) = session.holding.minus(amount) else {
@@ -52,8 +52,8 @@ impl<A: Archived, P: Pool<A>> Book<A, P> {
 
     // Ends a session: all that it holds goes back, and the bay is empty.
     pub fn end(&mut self, bay: u8) -> Result<(), Refusal>
-        ensures answer { of_done result ≡ answer A.Amount.ops (state_of A.Amount.ops width decode limits self.old) (ends bay) }
-        ensures after { state_of A.Amount.ops width decode limits self.new ≡ step A.Amount.ops (state_of A.Amount.ops width decode limits self.old) (ends bay) }
+        ensures answer { of_done result ≡ answer A.Amount.ops (state_of A.Amount.ops A.Archived.width A.Archived.decode P.Pool.limits self.old) (ends bay) }
+        ensures after { state_of A.Amount.ops A.Archived.width A.Archived.decode P.Pool.limits self.new ≡ step A.Amount.ops (state_of A.Amount.ops A.Archived.width A.Archived.decode P.Pool.limits self.old) (ends bay) }
     {
         let (next, session) = self.table.sitting::<A>(bay, RowCall::End)?;
         self.pile.give(session.mark, session.holding)?;

@@ -4,7 +4,7 @@ use Rattle.amount.specs.Arithmetic.{Ops}
 use Rattle.pool.specs.Limits.{short_place, within}
 use Rattle.orders.proofs.Walked.{true_false}
 use Rattle.orders.specs.Sessions.{with_holding, open_bays}
-use Rattle.orders.specs.declared.session.Session.{Session}
+use Rattle.orders.specs.Sessions.{Session}
 use Rattle.law.specs.Book.{Answer, Reply, refused, accepted, granted, guard, State, Row, empty, rest, moving, row, seen_row, is_moving, slip_bay, Call, opens, asks, gives, ends, answer, step, moved, asked, asked_pile, asked_bays, ask_answer, grant_answer}
 use Rattle.law.specs.Book as machine
 use Rattle.law.specs.SafeOrder.{safe_order}

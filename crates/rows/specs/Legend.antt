@@ -1,11 +1,10 @@
 -- The legend: each refusal of the book with its number and its value. Assumes nothing.
 use Rattle.std.specs.Prelude.{ℕ, Some, None, Option}
-use Rattle.pool.specs.declared.limit_fault.LimitFault.TheVariants.{Tall, Short, Torn}
 use Rattle.law.specs.Book.{Answer, refused, accepted}
 use Rattle.rows.specs.declared.refusal.Refusal.{Refusal}
-use Rattle.rows.specs.declared.refusal.Refusal.TheVariants.{Shut, NoBay, NoMark, Moving, Taken, Empty, Limit, AboveClaim, PutOff, MoreThanHeld, ShortSheet, WrongSlip}
+use Rattle.rows.specs.declared.refusal.Refusal.TheVariants.{Shut, NoBay, NoMark, Moving, Taken, Empty, TallClaim, AboveClaim, NoRoom, PutOff, MoreThanHeld, ShortSheet, WrongSlip, Torn}
 
--- the number, and the place of the limit where one refuses
+-- the number, and the place of the limit where one is told
 abbrev pub legend : Refusal → ℕ × Option ℕ
 legend Shut = (1, None)
 legend NoBay = (2, None)
@@ -13,14 +12,14 @@ legend NoMark = (3, None)
 legend Moving = (4, None)
 legend Taken = (5, None)
 legend Empty = (6, None)
-legend (Limit (Tall p)) = (7, Some p)
+legend (TallClaim f) = (7, Some f.place)
 legend AboveClaim = (8, None)
-legend (Limit (Short p)) = (9, Some p)
+legend (NoRoom f) = (9, Some f.place)
 legend PutOff = (10, None)
 legend MoreThanHeld = (11, None)
 legend ShortSheet = (12, None)
 legend WrongSlip = (13, None)
-legend (Limit (Torn p)) = (14, Some p)
+legend (Torn _) = (14, None)
 
 abbrev pub number_of : Refusal → ℕ
 number_of e = (legend e).0

@@ -1,6 +1,6 @@
 -- What a row means: its bay, with the session that its bytes are. Assumes nothing.
 use Rattle.std.specs.Prelude.{ℕ, List, replicate, Option}
-use Rattle.orders.specs.declared.session.Session.{Session}
+use Rattle.orders.specs.Sessions.{Session}
 use Rattle.law.specs.Book.{empty, rest, moving}
 use Rattle.law.specs.Book as book
 use Rattle.rows.specs.Cells.{amount_in}

@@ -19,7 +19,7 @@ impl Cell {
 
     // The amount that the cell holds; zero where the kind is wider than the cell.
     pub fn read<A: Archived>(&self) -> A
-        ensures { result ≡ amount_in width decode A.Amount.ops.zero self.now }
+        ensures { result ≡ amount_in A.Archived.width A.Archived.decode A.Amount.ops.zero self.now }
     {
         let w = A::W.get();
         if w > 16 {
@@ -33,7 +33,7 @@ impl Cell {
 
     // Writes the amount into the first W bytes; the others stay, and all do where the kind is wider than the cell.
     pub fn write<A: Archived>(&mut self, amount: A)
-        ensures { self.new ≡ with_amount width (bytes amount) self.old }
+        ensures { self.new ≡ with_amount A.Archived.width (A.Archived.bytes amount) self.old }
     {
         let w = A::W.get();
         if w <= 16 {

@@ -1,6 +1,6 @@
 ghost use Rattle.std.specs.Prelude.{◌≡◌};
 ghost use Rattle.rows.specs.Legend.{number_of, place_of};
-ghost use Rattle.rows.specs.declared.refusal.Refusal.TheVariants.{Limit, ShortSheet as SheetShort};
+ghost use Rattle.rows.specs.declared.refusal.Refusal.TheVariants.{NoRoom, ShortSheet as SheetShort};
 
 use pool::LimitFault;
 use search::ShortSheet;
@@ -20,10 +20,12 @@ pub enum Refusal {
     Taken,
     // the bay is empty
     Empty,
-    // a limit's own fault, whole: the claim is tall, there is no room, or what is given back is not out
-    Limit(LimitFault),
+    // the claim is no part of a limit's ceiling: the limit's own fault, whole
+    TallClaim(LimitFault),
     // holding plus amount is undefined or not part of the claim
     AboveClaim,
+    // a limit has no room for the amount: its own fault, whole
+    NoRoom(LimitFault),
     // there is no completion order; on an ask, with the amount granted
     PutOff,
     // the amount is not part of the holding
@@ -32,13 +34,15 @@ pub enum Refusal {
     ShortSheet,
     // another book's slip, or its bay is not moving
     WrongSlip,
+    // the pile refuses to take back what the rows say is held: the limit's own fault, whole
+    Torn(LimitFault),
 }
 
 impl From<LimitFault> for Refusal {
-    ghost from_gives = { λ e r. r ≡ Limit e };
+    ghost from_gives = { λ e r. r ≡ NoRoom e };
 
     fn from(e: LimitFault) -> Refusal {
-        Refusal::Limit(e)
+        Refusal::NoRoom(e)
     }
 }
 
@@ -62,25 +66,23 @@ impl Refusal {
             Refusal::Moving => 4,
             Refusal::Taken => 5,
             Refusal::Empty => 6,
-            Refusal::Limit(LimitFault::Tall(_)) => 7,
+            Refusal::TallClaim(_) => 7,
             Refusal::AboveClaim => 8,
-            Refusal::Limit(LimitFault::Short(_)) => 9,
+            Refusal::NoRoom(_) => 9,
             Refusal::PutOff => 10,
             Refusal::MoreThanHeld => 11,
             Refusal::ShortSheet => 12,
             Refusal::WrongSlip => 13,
-            Refusal::Limit(LimitFault::Torn(_)) => 14,
+            Refusal::Torn(_) => 14,
         }
     }
 
-    // The place of the limit that refuses, where it is a limit's fault.
+    // The place that is told: of the limit that refuses a claim or an ask.
     pub fn place(&self) -> Option<u8>
         ensures { result ≡ place_of self.now }
     {
         match self {
-            Refusal::Limit(
-                LimitFault::Tall(place) | LimitFault::Short(place) | LimitFault::Torn(place),
-            ) => Some(*place),
+            Refusal::TallClaim(fault) | Refusal::NoRoom(fault) => Some(fault.place),
             _ => None,
         }
     }

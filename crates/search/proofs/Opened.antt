@@ -2,7 +2,7 @@
 use Rattle.std.proofs.Common.{◌≡◌, ℕ, ◌+◌, ◌<◌, ◌≤◌, Bool, true, false, cond, ◌∷◌, length, get_or, drop, is_some, Some, None, Option, ap, ◌∙◌, arith}
 use Rattle.std.proofs.lemmas.List.{drop_all, drop_more}
 use Rattle.orders.specs.Sessions.{Bays, open_bays}
-use Rattle.orders.specs.declared.session.Session.{Session}
+use Rattle.orders.specs.Sessions.{Session}
 
 module _ {A : Type 0} where
   open_first : (b : Option (Session A)) (t : Bays A) → open_bays (b ∷ t) ≡ cond (is_some b) 1 0 + open_bays t

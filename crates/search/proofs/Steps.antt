@@ -4,7 +4,7 @@ use Rattle.std.proofs.lemmas.List.{take_more_set, get_or_default}
 use Rattle.amount.specs.Arithmetic.{Ops}
 use Rattle.pool.specs.Limits.{Limit, lowest_place}
 use Rattle.orders.specs.Sessions.{Bays, bay, emptied}
-use Rattle.orders.specs.declared.session.Session.{Session}
+use Rattle.orders.specs.Sessions.{Session}
 use Rattle.law.specs.SafeOrder.{may_finish, finished, safe_from, safe_order}
 use Rattle.search.specs.Seats.{without}
 

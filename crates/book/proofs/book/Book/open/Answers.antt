@@ -3,7 +3,7 @@ use Rattle.std.proofs.lemmas.Result.{err_from_is_err_and}
 use Rattle.std.proofs.lemmas.Bool.{leb-false}
 use Rattle.pool.specs.Limits.{told_place, tall_place}
 use Rattle.pool.specs.declared.limit_fault.LimitFault.TheVariants.{Tall}
-use Rattle.orders.specs.declared.session.Session.{Session}
+use Rattle.orders.specs.Sessions.{Session}
 use Rattle.law.specs.Book.{accepted, done, guard_at, opens, answer}
 use Rattle.law.specs.Book as machine
 use Rattle.rows.proofs.Cells.{reads_written}
