@@ -3,7 +3,7 @@ use Rattle.std.proofs.Common.{◌≡◌, ℕ, ◌≤◌, Bool, true, false, cond
 use lib.Seq.{map-set}
 use Rattle.std.proofs.lemmas.Bool.{lt-leb, leb-true}
 use Rattle.amount.specs.Arithmetic.{Ops}
-use Rattle.pool.specs.Changes.{Changed}
+use Rattle.pool.specs.Changes.{Changed, fault_at}
 use Rattle.pool.specs.Limits.{Limit, told, told_place, unless, given_back, torn_place}
 use Rattle.pool.specs.declared.limit_fault.LimitFault.{LimitFault}
 use Rattle.orders.proofs.Bays.{some_none}
@@ -29,14 +29,14 @@ use Rattle.book.specs.declared.slip.Slip.{Slip}
 use Rattle.book.proofs.Read.{known_ok, unspent_by, spends_by, ok_err, same_err, row_is, calm, refused_by, Sitting, ok_by}
 
 -- the pile allowed the change, or refused it
-pub change_made : {A : Type 0} (o : Ops A) (fault : ℕ → LimitFault) (x : Option ℕ) (new ls exit : List (Limit A)) → Changed fault (unless o x new) ls exit (Ok tt) → (x ≡ None) × (exit ≡ new)
-change_made o fault None new ls exit h = (refl, h.1)
-change_made o fault (Some p) new ls exit h = ok_err h.0
+pub change_made : {A : Type 0} (o : Ops A) (x : Option ℕ) (new ls exit : List (Limit A)) → Changed (unless o x new) ls exit (Ok tt) → (x ≡ None) × (exit ≡ new)
+change_made o None new ls exit h = (refl, h.1)
+change_made o (Some p) new ls exit h = ok_err h.0
 
-pub change_refused : {A : Type 0} (o : Ops A) (fault : ℕ → LimitFault) (x : Option ℕ) (new ls exit : List (Limit A)) (e : LimitFault) → Changed fault (unless o x new) ls exit (Err e)
-    → (p : ℕ) × (x ≡ Some p) × (e ≡ fault (told p)) × (exit ≡ ls)
-change_refused o fault None new ls exit e h = ok_err (sym h.0)
-change_refused o fault (Some p) new ls exit e h = (p, refl, same_err h.0, h.1)
+pub change_refused : {A : Type 0} (o : Ops A) (x : Option ℕ) (new ls exit : List (Limit A)) (e : LimitFault) → Changed (unless o x new) ls exit (Err e)
+    → (p : ℕ) × (x ≡ Some p) × (e ≡ fault_at p) × (exit ≡ ls)
+change_refused o None new ls exit e h = ok_err (sym h.0)
+change_refused o (Some p) new ls exit e h = (p, refl, same_err h.0, h.1)
 
 pub less_is : {A : Type 0} (o : Ops A) (s : Session A) (a h : A) → o.minus s.holding a ≡ Some h → less_held o s a ≡ machine.rest (with_holding s h)
 less_is o s a h e = rw (less_held, e)

@@ -24,7 +24,7 @@ impl<A: Archived, P: Pool<A>> Book<A, P> {
         }
         let next = turn(self.table.rows[bay as usize].state, RowCall::Open)?;
         if let Some(place) = self.pile.tall(mark, claim) {
-            return Err(Refusal::from(LimitFault::Tall(place)));
+            return Err(Refusal::TallClaim(LimitFault { place }));
         }
         let row = &mut self.table.rows[bay as usize];
         row.state = next;
@@ -43,11 +43,15 @@ impl<A: Archived, P: Pool<A>> Book<A, P> {
         let Some(rest) = session.holding.minus(amount) else {
             return Err(Refusal::MoreThanHeld);
         };
-        self.pile.give(session.mark, amount)?;
-        let row = &mut self.table.rows[bay as usize];
-        row.state = next;
-        row.holding.write(rest);
-        Ok(())
+        match self.pile.give(session.mark, amount) {
+            Err(fault) => Err(Refusal::Torn(fault)),
+            Ok(()) => {
+                let row = &mut self.table.rows[bay as usize];
+                row.state = next;
+                row.holding.write(rest);
+                Ok(())
+            }
+        }
     }
 
     // Ends a session: all that it holds goes back, and the bay is empty.
@@ -56,9 +60,13 @@ impl<A: Archived, P: Pool<A>> Book<A, P> {
         ensures after { state_of A.Amount.ops A.Archived.width A.Archived.decode P.Pool.limits self.new ≡ step A.Amount.ops (state_of A.Amount.ops A.Archived.width A.Archived.decode P.Pool.limits self.old) (ends bay) }
     {
         let (next, session) = self.table.sitting::<A>(bay, RowCall::End)?;
-        self.pile.give(session.mark, session.holding)?;
-        let row = &mut self.table.rows[bay as usize];
-        row.state = next;
-        Ok(())
+        match self.pile.give(session.mark, session.holding) {
+            Err(fault) => Err(Refusal::Torn(fault)),
+            Ok(()) => {
+                let row = &mut self.table.rows[bay as usize];
+                row.state = next;
+                Ok(())
+            }
+        }
     }
 }

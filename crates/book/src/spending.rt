@@ -41,7 +41,7 @@ impl<A: Archived, P: Pool<A>> Book<A, P> {
                 let holding: A = before.holding.read();
                 match self.pile.give(before.mark, portion) {
                     Err(fault) => Err(Unspent {
-                        refusal: Refusal::from(fault),
+                        refusal: Refusal::Torn(fault),
                         slip,
                     }),
                     Ok(()) => {

@@ -1,15 +1,14 @@
-use Rattle.std.proofs.Common.{◌≡◌, ℕ, List, set, Some, sym, refl, ap, ◌∙◌, ap₂}
+use Rattle.std.proofs.Common.{◌≡◌, ℕ, List, set, Some, Ok, sym, refl, ap, ◌∙◌, ap₂}
 use Rattle.std.proofs.lemmas.Result.{err_from_is_err_and}
 use Rattle.std.specs.Option.{option_map}
-use Rattle.pool.specs.Limits.{Limit, short_place, taken}
-use Rattle.pool.specs.declared.limit_fault.LimitFault.TheVariants.{Short}
-use Rattle.orders.specs.Sessions.{with_holding}
+use Rattle.pool.specs.Limits.{Limit, bounded, short_place, taken}
+use Rattle.orders.specs.Sessions.{Session, with_holding}
 use Rattle.law.specs.Book.{State, Reply, accepted, granted, guard_at, asks, ask_answer, asked_bays, asked_pile, order_answer, answer, sheet_by}
 use Rattle.law.specs.Book as machine
 use Rattle.rows.proofs.Cells.{reads_written}
 use Rattle.rows.specs.Legend.{refusal}
 use Rattle.rows.specs.declared.effect.RowCall.TheVariants.{Ask}
-use Rattle.rows.specs.declared.refusal.Refusal.TheVariants.{AboveClaim, PutOff, ShortSheet, Limit as OfLimit}
+use Rattle.rows.specs.declared.refusal.Refusal.TheVariants.{AboveClaim, PutOff, ShortSheet, NoRoom as OfLimit}
 use Rattle.rows.specs.declared.row.RowState.TheVariants.{Moving}
 use Rattle.search.specs.Completing.{completing}
 use Rattle.search.specs.Named.{bays_of}
@@ -67,13 +66,16 @@ returns-in_err-take g c =
     let a = c.args.amount in
     let sheet = c.args.sheet.now in
     let st = state o w decode t ls in
-    let s = c.in_ok-next.session in
-    let x = sitting_ok o w decode t ls Ask Moving refl refl i c.in_ok-next.next s c.in_ok-next.ensures in
+    let q = c.session.inside in
+    let s : Session g.row.A.Denot = record { mark = q.mark; claim = q.claim; holding = q.holding } in
+    let same : s ≡ c.in_ok-next.session = c.session.view_is in
+    let ok : Ok (c.in_ok-next.next, s) ≡ _ = ap (λ z. Ok (c.in_ok-next.next, z)) same ∙ c.in_ok-next.ensures in
+    let x = sitting_ok o w decode t ls Ask Moving refl refl i c.in_ok-next.next s ok in
     let through = x.through (ask_answer o st i a sheet) in
     let held = c.in-Some.holding in
-    let fitting = fits_claim o st i a sheet s (o.plus s.holding a) held (sym c.grown.ensures ∙ c.in-Some.is) in
+    let fitting = fits_claim o st i a sheet s (o.plus s.holding a) held (ap (λ (z : Session g.row.A.Denot). bounded o z.claim (o.plus z.holding a)) same ∙ sym c.grown.ensures ∙ c.in-Some.is) in
     let e = c.in_err-take.field-0.0 in
-    let y = change_refused o Short (short_place o ls s.mark a) (taken o s.mark a ls) ls (limits c.take.new.self) e c.in_err-take.ensures in
+    let y = change_refused o (short_place o ls s.mark a) (taken o s.mark a ls) ls (limits c.take.new.self) e c.in_err-take.ensures in
     let h : refusal (OfLimit e) ≡ answer o st (asks i a sheet) =
     ap (λ e. refusal (OfLimit e)) y.2
     ∙ sym (through ∙ fitting.1 ∙ ap (λ p. guard_at p 9 (order_answer o (asked_pile o st s a) (asked_bays o st i s held) sheet (λ n. granted n (record { number = st.number; at = i })))) y.1) in
@@ -92,13 +94,16 @@ returns-in_default-completion_order g c =
     let a = c.args.amount in
     let sheet = c.args.sheet.now in
     let st = state o w decode t ls in
-    let s = c.in_ok-next.session in
-    let x = sitting_ok o w decode t ls Ask Moving refl refl i c.in_ok-next.next s c.in_ok-next.ensures in
+    let q = c.session.inside in
+    let s : Session g.row.A.Denot = record { mark = q.mark; claim = q.claim; holding = q.holding } in
+    let same : s ≡ c.in_ok-next.session = c.session.view_is in
+    let ok : Ok (c.in_ok-next.next, s) ≡ _ = ap (λ z. Ok (c.in_ok-next.next, z)) same ∙ c.in_ok-next.ensures in
+    let x = sitting_ok o w decode t ls Ask Moving refl refl i c.in_ok-next.next s ok in
     let through = x.through (ask_answer o st i a sheet) in
     let held = c.in-Some.holding in
-    let fitting = fits_claim o st i a sheet s (o.plus s.holding a) held (sym c.grown.ensures ∙ c.in-Some.is) in
+    let fitting = fits_claim o st i a sheet s (o.plus s.holding a) held (ap (λ (z : Session g.row.A.Denot). bounded o z.claim (o.plus z.holding a)) same ∙ sym c.grown.ensures ∙ c.in-Some.is) in
     let slip : machine.Slip = record { number = st.number; at = i } in
-    let y = change_made o Short (short_place o ls s.mark a) (taken o s.mark a ls) ls (limits c.take.new.self) c.in_ok-take.ensures in
+    let y = change_made o (short_place o ls s.mark a) (taken o s.mark a ls) ls (limits c.take.new.self) c.in_ok-take.ensures in
     let bays = asked_bays o st i s held in
     let pile = asked_pile o st s a in
     let reply : ℕ → Reply = λ n. granted n slip in
@@ -120,13 +125,16 @@ returns-in_err-count g c =
     let a = c.args.amount in
     let sheet = c.args.sheet.now in
     let st = state o w decode t ls in
-    let s = c.in_ok-next.session in
-    let x = sitting_ok o w decode t ls Ask Moving refl refl i c.in_ok-next.next s c.in_ok-next.ensures in
+    let q = c.session.inside in
+    let s : Session g.row.A.Denot = record { mark = q.mark; claim = q.claim; holding = q.holding } in
+    let same : s ≡ c.in_ok-next.session = c.session.view_is in
+    let ok : Ok (c.in_ok-next.next, s) ≡ _ = ap (λ z. Ok (c.in_ok-next.next, z)) same ∙ c.in_ok-next.ensures in
+    let x = sitting_ok o w decode t ls Ask Moving refl refl i c.in_ok-next.next s ok in
     let through = x.through (ask_answer o st i a sheet) in
     let held = c.in-Some.holding in
-    let fitting = fits_claim o st i a sheet s (o.plus s.holding a) held (sym c.grown.ensures ∙ c.in-Some.is) in
+    let fitting = fits_claim o st i a sheet s (o.plus s.holding a) held (ap (λ (z : Session g.row.A.Denot). bounded o z.claim (o.plus z.holding a)) same ∙ sym c.grown.ensures ∙ c.in-Some.is) in
     let slip : machine.Slip = record { number = st.number; at = i } in
-    let y = change_made o Short (short_place o ls s.mark a) (taken o s.mark a ls) ls (limits c.take.new.self) c.in_ok-take.ensures in
+    let y = change_made o (short_place o ls s.mark a) (taken o s.mark a ls) ls (limits c.take.new.self) c.in_ok-take.ensures in
     let bays = asked_bays o st i s held in
     let pile = asked_pile o st s a in
     let reply : ℕ → Reply = λ n. granted n slip in
@@ -150,13 +158,16 @@ returns g c =
     let a = c.args.amount in
     let sheet = c.args.sheet.now in
     let st = state o w decode t ls in
-    let s = c.in_ok-next.session in
-    let x = sitting_ok o w decode t ls Ask Moving refl refl i c.in_ok-next.next s c.in_ok-next.ensures in
+    let q = c.session.inside in
+    let s : Session g.row.A.Denot = record { mark = q.mark; claim = q.claim; holding = q.holding } in
+    let same : s ≡ c.in_ok-next.session = c.session.view_is in
+    let ok : Ok (c.in_ok-next.next, s) ≡ _ = ap (λ z. Ok (c.in_ok-next.next, z)) same ∙ c.in_ok-next.ensures in
+    let x = sitting_ok o w decode t ls Ask Moving refl refl i c.in_ok-next.next s ok in
     let through = x.through (ask_answer o st i a sheet) in
     let held = c.in-Some.holding in
-    let fitting = fits_claim o st i a sheet s (o.plus s.holding a) held (sym c.grown.ensures ∙ c.in-Some.is) in
+    let fitting = fits_claim o st i a sheet s (o.plus s.holding a) held (ap (λ (z : Session g.row.A.Denot). bounded o z.claim (o.plus z.holding a)) same ∙ sym c.grown.ensures ∙ c.in-Some.is) in
     let slip : machine.Slip = record { number = st.number; at = i } in
-    let y = change_made o Short (short_place o ls s.mark a) (taken o s.mark a ls) ls (limits c.take.new.self) c.in_ok-take.ensures in
+    let y = change_made o (short_place o ls s.mark a) (taken o s.mark a ls) ls (limits c.take.new.self) c.in_ok-take.ensures in
     let bays = asked_bays o st i s held in
     let pile = asked_pile o st s a in
     let reply : ℕ → Reply = λ n. granted n slip in

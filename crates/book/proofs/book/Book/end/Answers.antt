@@ -1,12 +1,12 @@
-use Rattle.std.proofs.Common.{◌≡◌, List, set, sym, refl, ap, ◌∙◌}
+use Rattle.std.proofs.Common.{◌≡◌, is_some, List, Ok, set, sym, refl, ap, ◌∙◌}
 use Rattle.std.proofs.lemmas.Result.{err_from_is_err_and}
 use Rattle.pool.specs.Limits.{Limit, torn_place, given_back}
-use Rattle.pool.specs.declared.limit_fault.LimitFault.TheVariants.{Torn}
-use Rattle.law.specs.Book.{State, accepted, done, guard_at, ends, end_answer, give_back, answer, step}
+use Rattle.orders.specs.Sessions.{Session}
+use Rattle.law.specs.Book.{State, accepted, done, guard, ends, end_answer, give_back, answer, step}
 use Rattle.law.specs.Book as machine
 use Rattle.rows.specs.Legend.{refusal}
 use Rattle.rows.specs.declared.effect.RowCall.TheVariants.{End}
-use Rattle.rows.specs.declared.refusal.Refusal.TheVariants.{Limit as OfLimit}
+use Rattle.rows.specs.declared.refusal.Refusal.TheVariants.{Torn as OfLimit}
 use Rattle.rows.specs.declared.row.RowState.TheVariants.{Empty}
 use Rattle.book.proofs.Steps.{state, stays, changes, same_limits, by_tag, change_made, change_refused, sitting_refused, sitting_ok}
 use Rattle.book.proofs.book.Book.end.Goals as goal
@@ -25,8 +25,8 @@ returns-in_err-next g c =
     let p = err_from_is_err_and c.from_residual.result c.from_residual.ensures.1 in
     rw (p.1, p.2) (record { answer = h; after = stays o w decode t ls (ends i) c.in_err-next.field-0.0 h })
 
-pub returns-in_err-give : goal.returns-in_err-give
-returns-in_err-give g c =
+pub returns-in-Err : goal.returns-in-Err
+returns-in-Err g c =
     let o = g.A.Amount.ops in
     let w = g.A.Archived.width in
     let decode = g.A.Archived.decode in
@@ -35,15 +35,17 @@ returns-in_err-give g c =
     let ls = limits c.args.self.now.pile in
     let i = c.args.bay in
     let st = state o w decode t ls in
-    let s = c.in_ok-next.session in
-    let x = sitting_ok o w decode t ls End Empty refl refl i c.in_ok-next.next s c.in_ok-next.ensures in
-    let y = change_refused o Torn (torn_place o st.pile s.mark s.holding) (given_back o s.mark s.holding st.pile) st.pile (limits c.give.new.self) _ c.in_err-give.ensures in
-    let h = ap (λ e. refusal (OfLimit e)) y.2 ∙ sym (x.through (end_answer o st) ∙ ap (λ p. guard_at p 14 (accepted done)) y.1) in
-    let p = err_from_is_err_and c.from_residual-in_err-give.result c.from_residual-in_err-give.ensures.1 in
-    rw (p.1, p.2) (record { answer = h; after = same_limits o w decode t ls (limits c.give.new.self) y.3 ∙ stays o w decode t ls (ends i) (OfLimit c.in_err-give.field-0.0) h })
+    let q = c.session.inside in
+    let s : Session g.row.A.Denot = record { mark = q.mark; claim = q.claim; holding = q.holding } in
+    let same : s ≡ c.in_ok-next.session = c.session.view_is in
+    let ok : Ok (c.in_ok-next.next, s) ≡ _ = ap (λ z. Ok (c.in_ok-next.next, z)) same ∙ c.in_ok-next.ensures in
+    let x = sitting_ok o w decode t ls End Empty refl refl i c.in_ok-next.next s ok in
+    let y = change_refused o (torn_place o st.pile s.mark s.holding) (given_back o s.mark s.holding st.pile) st.pile (limits c.give.new.self) _ c.in-Err.ensures in
+    let h = ap (λ e. refusal (OfLimit e)) y.2 ∙ sym (x.through (end_answer o st) ∙ ap (λ p. guard (is_some p) 14 (accepted done)) y.1) in
+    record { answer = h; after = same_limits o w decode t ls (limits c.give.new.self) y.3 ∙ stays o w decode t ls (ends i) (OfLimit c.in-Err.fault) h }
 
-pub returns : goal.returns
-returns g c =
+pub returns-in-Ok : goal.returns-in-Ok
+returns-in-Ok g c =
     let o = g.A.Amount.ops in
     let w = g.A.Archived.width in
     let decode = g.A.Archived.decode in
@@ -52,10 +54,13 @@ returns g c =
     let ls = limits c.args.self.now.pile in
     let i = c.args.bay in
     let st = state o w decode t ls in
-    let s = c.in_ok-next.session in
-    let x = sitting_ok o w decode t ls End Empty refl refl i c.in_ok-next.next s c.in_ok-next.ensures in
-    let y = change_made o Torn (torn_place o st.pile s.mark s.holding) (given_back o s.mark s.holding st.pile) st.pile (limits c.give.new.self) c.in_ok-give.ensures in
-    let h : accepted done ≡ answer o st (ends i) = sym (x.through (end_answer o st) ∙ ap (λ p. guard_at p 14 (accepted done)) y.0) in
+    let q = c.session.inside in
+    let s : Session g.row.A.Denot = record { mark = q.mark; claim = q.claim; holding = q.holding } in
+    let same : s ≡ c.in_ok-next.session = c.session.view_is in
+    let ok : Ok (c.in_ok-next.next, s) ≡ _ = ap (λ z. Ok (c.in_ok-next.next, z)) same ∙ c.in_ok-next.ensures in
+    let x = sitting_ok o w decode t ls End Empty refl refl i c.in_ok-next.next s ok in
+    let y = change_made o (torn_place o st.pile s.mark s.holding) (given_back o s.mark s.holding st.pile) st.pile (limits c.give.new.self) c.in-Ok.ensures in
+    let h : accepted done ≡ answer o st (ends i) = sym (x.through (end_answer o st) ∙ ap (λ p. guard (is_some p) 14 (accepted done)) y.0) in
     let F : List (Limit g.row.A.Denot) → State g.row.A.Denot = λ ls. record { shut = st.shut; number = st.number; pile = ls; rows = set st.rows i machine.empty } in
     let m = ap F (y.1 ∙ sym (ap (give_back o st.pile) x.at_rest)) in
     record { answer = h; after = changes o w decode t ls (ends i) done i _ (limits c.give.new.self) machine.empty h (by_tag o w decode t ls _ Empty x.turns) m }

@@ -1,14 +1,13 @@
-use Rattle.std.proofs.Common.{◌≡◌, not, List, set, is_some, sym, refl, ap, ◌∙◌, ap₂}
+use Rattle.std.proofs.Common.{◌≡◌, is_some, not, List, Ok, set, sym, refl, ap, ◌∙◌, ap₂}
 use Rattle.std.proofs.lemmas.Result.{err_from_is_err_and}
 use Rattle.pool.specs.Limits.{Limit, torn_place, given_back}
-use Rattle.pool.specs.declared.limit_fault.LimitFault.TheVariants.{Torn}
-use Rattle.orders.specs.Sessions.{with_holding}
-use Rattle.law.specs.Book.{State, accepted, done, guard, guard_at, seen_row, gives, give_answer, gave, with_mark, answer}
+use Rattle.orders.specs.Sessions.{Session, with_holding}
+use Rattle.law.specs.Book.{State, accepted, done, guard, seen_row, gives, give_answer, gave, with_mark, answer}
 use Rattle.law.specs.Book as machine
 use Rattle.rows.proofs.Cells.{reads_written}
 use Rattle.rows.specs.Legend.{refusal}
 use Rattle.rows.specs.declared.effect.RowCall.TheVariants.{Give}
-use Rattle.rows.specs.declared.refusal.Refusal.TheVariants.{MoreThanHeld, Limit as OfLimit}
+use Rattle.rows.specs.declared.refusal.Refusal.TheVariants.{MoreThanHeld, Torn as OfLimit}
 use Rattle.rows.specs.declared.row.RowState.TheVariants.{AtRest}
 use Rattle.book.proofs.Read.{fits}
 use Rattle.book.specs.Tables.{row_in}
@@ -40,13 +39,16 @@ returns-in_default g c =
     let i = c.args.bay in
     let st = state o w decode t ls in
     let a = c.args.amount in
-    let s = c.in_ok-next.session in
-    let x = sitting_ok o w decode t ls Give AtRest refl refl i c.in_ok-next.next s c.in_ok-next.ensures in
-    let h : refusal MoreThanHeld ≡ answer o st (gives i a) = sym (x.through (give_answer o st a) ∙ ap (λ m. guard (not (is_some m)) 11 (guard_at (torn_place o st.pile s.mark a) 14 (accepted done))) (sym c.minus.ensures ∙ c.in_default.is)) in
+    let q = c.session.inside in
+    let s : Session g.row.A.Denot = record { mark = q.mark; claim = q.claim; holding = q.holding } in
+    let same : s ≡ c.in_ok-next.session = c.session.view_is in
+    let ok : Ok (c.in_ok-next.next, s) ≡ _ = ap (λ z. Ok (c.in_ok-next.next, z)) same ∙ c.in_ok-next.ensures in
+    let x = sitting_ok o w decode t ls Give AtRest refl refl i c.in_ok-next.next s ok in
+    let h : refusal MoreThanHeld ≡ answer o st (gives i a) = sym (x.through (give_answer o st a) ∙ ap (λ m. guard (not (is_some m)) 11 (guard (is_some (torn_place o st.pile s.mark a)) 14 (accepted done))) (sym c.minus.ensures ∙ c.in_default.is)) in
     record { answer = h; after = stays o w decode t ls (gives i a) MoreThanHeld h }
 
-pub returns-in_err-give : goal.returns-in_err-give
-returns-in_err-give g c =
+pub returns-in-Err : goal.returns-in-Err
+returns-in-Err g c =
     let o = g.A.Amount.ops in
     let w = g.A.Archived.width in
     let decode = g.A.Archived.decode in
@@ -56,19 +58,21 @@ returns-in_err-give g c =
     let i = c.args.bay in
     let st = state o w decode t ls in
     let a = c.args.amount in
-    let s = c.in_ok-next.session in
-    let x = sitting_ok o w decode t ls Give AtRest refl refl i c.in_ok-next.next s c.in_ok-next.ensures in
-    let y = change_refused o Torn (torn_place o st.pile s.mark a) (given_back o s.mark a st.pile) st.pile (limits c.give.new.self) _ c.in_err-give.ensures in
+    let q = c.session.inside in
+    let s : Session g.row.A.Denot = record { mark = q.mark; claim = q.claim; holding = q.holding } in
+    let same : s ≡ c.in_ok-next.session = c.session.view_is in
+    let ok : Ok (c.in_ok-next.next, s) ≡ _ = ap (λ z. Ok (c.in_ok-next.next, z)) same ∙ c.in_ok-next.ensures in
+    let x = sitting_ok o w decode t ls Give AtRest refl refl i c.in_ok-next.next s ok in
+    let y = change_refused o (torn_place o st.pile s.mark a) (given_back o s.mark a st.pile) st.pile (limits c.give.new.self) _ c.in-Err.ensures in
     let h =
     ap (λ e. refusal (OfLimit e)) y.2
     ∙ sym (x.through (give_answer o st a)
-    ∙ ap (λ m. guard (not (is_some m)) 11 (guard_at (torn_place o st.pile s.mark a) 14 (accepted done))) (sym c.minus.ensures ∙ c.in-Some.is)
-    ∙ ap (λ p. guard_at p 14 (accepted done)) y.1) in
-    let p = err_from_is_err_and c.from_residual-in_err-give.result c.from_residual-in_err-give.ensures.1 in
-    rw (p.1, p.2) (record { answer = h; after = same_limits o w decode t ls (limits c.give.new.self) y.3 ∙ stays o w decode t ls (gives i a) (OfLimit c.in_err-give.field-0.0) h })
+    ∙ ap (λ m. guard (not (is_some m)) 11 (guard (is_some (torn_place o st.pile s.mark a)) 14 (accepted done))) (sym c.minus.ensures ∙ c.in-Some.is)
+    ∙ ap (λ p. guard (is_some p) 14 (accepted done)) y.1) in
+    record { answer = h; after = same_limits o w decode t ls (limits c.give.new.self) y.3 ∙ stays o w decode t ls (gives i a) (OfLimit c.in-Err.fault) h }
 
-pub returns : goal.returns
-returns g c =
+pub returns-in-Ok : goal.returns-in-Ok
+returns-in-Ok g c =
     let o = g.A.Amount.ops in
     let w = g.A.Archived.width in
     let decode = g.A.Archived.decode in
@@ -78,15 +82,18 @@ returns g c =
     let i = c.args.bay in
     let st = state o w decode t ls in
     let a = c.args.amount in
-    let s = c.in_ok-next.session in
+    let q = c.session.inside in
+    let s : Session g.row.A.Denot = record { mark = q.mark; claim = q.claim; holding = q.holding } in
+    let same : s ≡ c.in_ok-next.session = c.session.view_is in
+    let ok : Ok (c.in_ok-next.next, s) ≡ _ = ap (λ z. Ok (c.in_ok-next.next, z)) same ∙ c.in_ok-next.ensures in
     let rest = c.in-Some.rest in
     let less : o.minus s.holding a ≡ _ = sym c.minus.ensures ∙ c.in-Some.is in
-    let x = sitting_ok o w decode t ls Give AtRest refl refl i c.in_ok-next.next s c.in_ok-next.ensures in
-    let y = change_made o Torn (torn_place o st.pile s.mark a) (given_back o s.mark a st.pile) st.pile (limits c.give.new.self) c.in_ok-give.ensures in
+    let x = sitting_ok o w decode t ls Give AtRest refl refl i c.in_ok-next.next s ok in
+    let y = change_made o (torn_place o st.pile s.mark a) (given_back o s.mark a st.pile) st.pile (limits c.give.new.self) c.in-Ok.ensures in
     let h : accepted done ≡ answer o st (gives i a) =
     sym (x.through (give_answer o st a)
-    ∙ ap (λ m. guard (not (is_some m)) 11 (guard_at (torn_place o st.pile s.mark a) 14 (accepted done))) less
-    ∙ ap (λ p. guard_at p 14 (accepted done)) y.0) in
+    ∙ ap (λ m. guard (not (is_some m)) 11 (guard (is_some (torn_place o st.pile s.mark a)) 14 (accepted done))) less
+    ∙ ap (λ p. guard (is_some p) 14 (accepted done)) y.0) in
     let F : List (Limit g.row.A.Denot) → machine.Row g.row.A.Denot → State g.row.A.Denot = λ ls r. record { shut = st.shut; number = st.number; pile = ls; rows = set st.rows i r } in
     let m = ap₂ F (y.1 ∙ sym (ap (λ r. with_mark o (seen_row r) (λ k. given_back o k a st.pile) st.pile) x.at_rest)) (sym (ap (λ r. gave o r a) x.at_rest ∙ less_is o s a rest less)) in
     let read = reads_written w g.A.Archived.bytes decode o.zero g.met.A.Archived.codec (fits w t.shut x.opened) rest (row_in t i).holding c.write.new.self c.write.ensures in

@@ -2,7 +2,6 @@ use Rattle.std.proofs.Common.{◌≡◌, Some, None, Option, sym, refl, ap, ◌�
 use Rattle.std.proofs.lemmas.Result.{err_from_is_err_and}
 use Rattle.std.proofs.lemmas.Bool.{leb-false}
 use Rattle.pool.specs.Limits.{told_place, tall_place}
-use Rattle.pool.specs.declared.limit_fault.LimitFault.TheVariants.{Tall}
 use Rattle.orders.specs.Sessions.{Session}
 use Rattle.law.specs.Book.{accepted, done, guard_at, opens, answer}
 use Rattle.law.specs.Book as machine
@@ -10,7 +9,7 @@ use Rattle.rows.proofs.Cells.{reads_written}
 use Rattle.rows.specs.Cells.{amount_in}
 use Rattle.rows.specs.Legend.{refusal}
 use Rattle.rows.specs.Rows.{session_in}
-use Rattle.rows.specs.declared.refusal.Refusal.TheVariants.{Limit as OfLimit, Moving as Slipped}
+use Rattle.rows.specs.declared.refusal.Refusal.TheVariants.{TallClaim as OfLimit, Moving as Slipped}
 use Rattle.rows.specs.declared.row.RowState.TheVariants.{AtRest}
 use Rattle.book.proofs.Read.{fits, known_ok, open_refused, open_turned}
 use Rattle.book.specs.Tables.{row_in, is_shut}
@@ -54,8 +53,8 @@ returns-in-Some g c =
     let through = open_through o w decode t ls i m k c.in_ok-known.ensures c.if-mark-gt15.false free in
     let turns = open_turned o st m k r.state (session_in w decode o.zero r) (amount_in w decode o.zero r.portion) c.in_ok-next.next c.in_ok-next.ensures in
     let told = tall_told (tall_place o st.pile m k) c.in-Some.place (sym c.in-Some.is ∙ c.tall.ensures) in
-    let h = ap refusal c.from.ensures ∙ sym (through ∙ turns.1 ∙ told) in
-    record { answer = h; after = stays o w decode t ls (opens i m k) c.from.result h }
+    let h = sym (through ∙ turns.1 ∙ told) in
+    record { answer = h; after = stays o w decode t ls (opens i m k) (OfLimit (record { place = c.in-Some.place })) h }
 
 pub returns : goal.returns
 returns g c =

@@ -1,14 +1,13 @@
-use Rattle.std.proofs.Common.{◌≡◌, List, set, unwrap_or, sym, refl, ap, ◌∙◌, ap₂}
+use Rattle.std.proofs.Common.{◌≡◌, is_some, List, set, unwrap_or, sym, refl, ap, ◌∙◌, ap₂}
 use Rattle.pool.specs.Limits.{Limit, torn_place, given_back}
-use Rattle.pool.specs.declared.limit_fault.LimitFault.TheVariants.{Torn}
 use Rattle.orders.specs.Sessions.{with_holding}
-use Rattle.law.specs.Book.{State, accepted, done, guard_at, row, withdraws, withdraw_answer, withdrawn, give_back, answer}
+use Rattle.law.specs.Book.{State, accepted, done, guard, row, withdraws, withdraw_answer, withdrawn, give_back, answer}
 use Rattle.law.specs.Book as machine
 use Rattle.rows.proofs.Cells.{reads_written}
 use Rattle.rows.specs.Legend.{refusal}
 use Rattle.rows.specs.Rows.{session_in}
 use Rattle.rows.specs.declared.effect.RowCall.TheVariants.{Withdraw}
-use Rattle.rows.specs.declared.refusal.Refusal.TheVariants.{Limit as OfLimit}
+use Rattle.rows.specs.declared.refusal.Refusal.TheVariants.{Torn as OfLimit}
 use Rattle.rows.specs.declared.row.RowState.TheVariants.{AtRest}
 use Rattle.book.specs.Replies.{slip_of}
 use Rattle.book.proofs.Read.{fits}
@@ -47,10 +46,10 @@ returns-in-Err-give g c =
     let a = c.read-portion.result in
     let ep = c.read-portion.ensures in
     let moves : row st.rows slip.bay ≡ machine.moving u a = x.moves_now ∙ ap (machine.moving u) (sym ep) in
-    let through : answer o st (withdraws (slip_of slip)) ≡ guard_at (torn_place o st.pile u.mark a) 14 (accepted done) = x.through (withdraw_answer o st) ∙ ap (λ y. guard_at (torn_place o st.pile u.mark y) 14 (accepted done)) (sym ep) in
-    let y = change_refused o Torn (torn_place o st.pile u.mark a) (given_back o u.mark a st.pile) st.pile (limits c.give.new.self) _ c.in-Err-give.ensures in
-    let h = ap refusal c.from.ensures ∙ ap (λ e. refusal (OfLimit e)) y.2 ∙ sym (through ∙ ap (λ p. guard_at p 14 (accepted done)) y.1) in
-    record { answer = h; after = same_limits o w decode t ls (limits c.give.new.self) y.3 ∙ stays o w decode t ls (withdraws (slip_of slip)) c.from.result h; slip = refl }
+    let through : answer o st (withdraws (slip_of slip)) ≡ guard (is_some (torn_place o st.pile u.mark a)) 14 (accepted done) = x.through (withdraw_answer o st) ∙ ap (λ y. guard (is_some (torn_place o st.pile u.mark y)) 14 (accepted done)) (sym ep) in
+    let y = change_refused o (torn_place o st.pile u.mark a) (given_back o u.mark a st.pile) st.pile (limits c.give.new.self) _ c.in-Err-give.ensures in
+    let h = ap (λ e. refusal (OfLimit e)) y.2 ∙ sym (through ∙ ap (λ p. guard (is_some p) 14 (accepted done)) y.1) in
+    record { answer = h; after = same_limits o w decode t ls (limits c.give.new.self) y.3 ∙ stays o w decode t ls (withdraws (slip_of slip)) (OfLimit c.in-Err-give.fault) h; slip = refl }
 
 pub returns-in-Ok-give : goal.returns-in-Ok-give
 returns-in-Ok-give g c =
@@ -68,9 +67,9 @@ returns-in-Ok-give g c =
     let a = c.read-portion.result in
     let ep = c.read-portion.ensures in
     let moves : row st.rows slip.bay ≡ machine.moving u a = x.moves_now ∙ ap (machine.moving u) (sym ep) in
-    let through : answer o st (withdraws (slip_of slip)) ≡ guard_at (torn_place o st.pile u.mark a) 14 (accepted done) = x.through (withdraw_answer o st) ∙ ap (λ y. guard_at (torn_place o st.pile u.mark y) 14 (accepted done)) (sym ep) in
-    let y = change_made o Torn (torn_place o st.pile u.mark a) (given_back o u.mark a st.pile) st.pile (limits c.give.new.self) c.in-Ok-give.ensures in
-    let h : accepted done ≡ answer o st (withdraws (slip_of slip)) = sym (through ∙ ap (λ p. guard_at p 14 (accepted done)) y.0) in
+    let through : answer o st (withdraws (slip_of slip)) ≡ guard (is_some (torn_place o st.pile u.mark a)) 14 (accepted done) = x.through (withdraw_answer o st) ∙ ap (λ y. guard (is_some (torn_place o st.pile u.mark y)) 14 (accepted done)) (sym ep) in
+    let y = change_made o (torn_place o st.pile u.mark a) (given_back o u.mark a st.pile) st.pile (limits c.give.new.self) c.in-Ok-give.ensures in
+    let h : accepted done ≡ answer o st (withdraws (slip_of slip)) = sym (through ∙ ap (λ p. guard (is_some p) 14 (accepted done)) y.0) in
     let rest = unwrap_or (o.minus u.holding a) u.holding in
     let left : c.unwrap_or.result ≡ rest = c.unwrap_or.ensures ∙ ap (λ z. unwrap_or z c.read-holding.result) c.minus.ensures ∙ ap (λ z. unwrap_or (o.minus z a) z) c.read-holding.ensures in
     let F : List (Limit g.row.A.Denot) → machine.Row g.row.A.Denot → State g.row.A.Denot = λ ls r. record { shut = st.shut; number = st.number; pile = ls; rows = set st.rows slip.bay r } in
