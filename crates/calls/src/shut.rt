@@ -58,32 +58,86 @@ fn a_pile_that_is_not_idle_shuts_the_book(rt: HostRuntime) -> Result<(), Fail> {
     let mut pile = fifteen();
     assert!(rt; !failed(pile.take(0, Phases::of(1))));
     let mut shut = Book::new(1, pile);
-    play(&rt, &mut shut, &mut Book::new(2, fifteen()), &ALL_REFUSED)?;
+    play(
+        &rt,
+        "phases",
+        &mut shut,
+        &mut Book::new(2, fifteen()),
+        &ALL_REFUSED,
+    )?;
     // 1 is tested before 13, and before the state of the bay
-    play(&rt, &mut Book::new(2, fifteen()), &mut shut, &SLIPS)?;
-    play(&rt, &mut Book::new(1, fifteen()), &mut shut, &SLIPS)
+    play(
+        &rt,
+        "phases, elsewhere",
+        &mut Book::new(2, fifteen()),
+        &mut shut,
+        &SLIPS,
+    )?;
+    play(
+        &rt,
+        "phases, of that number",
+        &mut Book::new(1, fifteen()),
+        &mut shut,
+        &SLIPS,
+    )
 }
 
 #[test]
 fn a_pile_that_is_idle_again_does_not(rt: HostRuntime) -> Result<(), Fail> {
     let mut pile = fifteen();
     assert!(rt; !failed(pile.take(0, Phases::of(0))));
-    play(&rt, &mut Book::new(1, pile), &mut aside(), &NOT_SHUT)?;
+    play(
+        &rt,
+        "phases",
+        &mut Book::new(1, pile),
+        &mut aside(),
+        &NOT_SHUT,
+    )?;
     assert!(rt; !failed(pile.take(0, Phases::of(1))));
     assert!(rt; !failed(pile.give(5, Phases::of(1))));
-    play(&rt, &mut Book::new(1, pile), &mut aside(), &NOT_SHUT)
+    play(
+        &rt,
+        "phases, given back",
+        &mut Book::new(1, pile),
+        &mut aside(),
+        &NOT_SHUT,
+    )
 }
 
 #[test]
 fn a_kind_wider_than_16_bytes_shuts_the_book(rt: HostRuntime) -> Result<(), Fail> {
     let mut shut = Book::new(1, Store::new(Wide::of(0b1111)));
-    play(&rt, &mut shut, &mut Book::new(2, fifteen()), &ALL_REFUSED)?;
-    play(&rt, &mut Book::new(2, fifteen()), &mut shut, &SLIPS)?;
-    play(&rt, &mut Book::new(1, fifteen()), &mut shut, &SLIPS)
+    play(
+        &rt,
+        "wide",
+        &mut shut,
+        &mut Book::new(2, fifteen()),
+        &ALL_REFUSED,
+    )?;
+    play(
+        &rt,
+        "wide, elsewhere",
+        &mut Book::new(2, fifteen()),
+        &mut shut,
+        &SLIPS,
+    )?;
+    play(
+        &rt,
+        "wide, of that number",
+        &mut Book::new(1, fifteen()),
+        &mut shut,
+        &SLIPS,
+    )
 }
 
 #[test]
 fn a_kind_of_16_bytes_does_not(rt: HostRuntime) -> Result<(), Fail> {
     let pile = Store::new(Pair::<Modules, Modules>::of(0b1111));
-    play(&rt, &mut Book::new(1, pile), &mut aside(), &NOT_SHUT)
+    play(
+        &rt,
+        "modules twice",
+        &mut Book::new(1, pile),
+        &mut aside(),
+        &NOT_SHUT,
+    )
 }

@@ -284,6 +284,7 @@ fn noted(wrong: Option<usize>, i: usize, right: bool) -> Option<usize> {
 // Makes the calls in turn: each is answered as is due.
 pub(crate) fn play<A: Sample, P: Pool<A>, B: Sample, Q: Pool<B>>(
     rt: &impl Abort,
+    kind: &str,
     book: &mut Book<A, P>,
     other: &mut Book<B, Q>,
     steps: &[(Call, Due)],
@@ -300,7 +301,7 @@ pub(crate) fn play<A: Sample, P: Pool<A>, B: Sample, Q: Pool<B>>(
     assert_eq!(rt;
         wrong,
         None,
-        "the first call that is not answered as is due"
+        "{kind}: the first call that is not answered as is due"
     );
     Ok(())
 }
@@ -314,25 +315,25 @@ pub(crate) fn play_each(
 ) -> Result<(), Fail> {
     play(
         rt,
+        "phases",
         &mut Book::new(1, Store::new(Phases::of(whole))),
         &mut Book::new(there, Store::new(Phases::of(whole))),
         steps,
-    )
-    .note("phases")?;
+    )?;
     play(
         rt,
+        "modules",
         &mut Book::new(1, Store::new(Modules::of(whole))),
         &mut Book::new(there, Store::new(Modules::of(whole))),
         steps,
-    )
-    .note("modules")?;
+    )?;
     play(
         rt,
+        "pairs",
         &mut Book::new(1, Store::new(Pair::<Phases, Modules>::of(whole))),
         &mut Book::new(there, Store::new(Pair::<Phases, Modules>::of(whole))),
         steps,
     )
-    .note("pairs")
 }
 
 // Place 0 a store, place 1 a cap for marks 1 and 2, place 2 a reserve for number 0.
@@ -355,34 +356,34 @@ pub(crate) fn play_piled(rt: &impl Abort, steps: &[(Call, Due)]) -> Result<(), F
     play_counted(rt, steps)?;
     play(
         rt,
+        "modules",
         &mut Book::new(1, pile::<Modules>()?),
         &mut aside(),
         steps,
-    )
-    .note("modules")?;
+    )?;
     play(
         rt,
+        "pairs",
         &mut Book::new(1, pile::<Pair<Phases, Modules>>()?),
         &mut aside(),
         steps,
     )
-    .note("pairs")
 }
 
 // The same of the kinds that are counted: phases, and pairs with them.
 pub(crate) fn play_counted(rt: &impl Abort, steps: &[(Call, Due)]) -> Result<(), Fail> {
     play(
         rt,
+        "phases",
         &mut Book::new(1, pile::<Phases>()?),
         &mut aside(),
         steps,
-    )
-    .note("phases")?;
+    )?;
     play(
         rt,
+        "pairs apart",
         &mut Book::new(1, pile::<Pair<Modules, Phases>>()?),
         &mut aside(),
         steps,
     )
-    .note("pairs apart")
 }

@@ -30,7 +30,7 @@ fn the_textbook_example(rt: HostRuntime) -> Result<(), Fail> {
         (Call::Order, Due::Named(&[1, 3, 0, 2, 4])),
     ];
     let pile = Store::new(Phases::of(0x000A_0005_0007));
-    play(&rt, &mut Book::new(1, pile), &mut aside(), &STEPS)
+    play(&rt, "phases", &mut Book::new(1, pile), &mut aside(), &STEPS)
 }
 
 #[test]
@@ -46,7 +46,13 @@ fn the_modules_example(rt: HostRuntime) -> Result<(), Fail> {
         (Call::Order, Due::Named(&[1, 2])),
     ];
     let pile = Store::new(Modules::of(0b1111));
-    play(&rt, &mut Book::new(1, pile), &mut aside(), &STEPS)
+    play(
+        &rt,
+        "modules",
+        &mut Book::new(1, pile),
+        &mut aside(),
+        &STEPS,
+    )
 }
 
 #[test]
@@ -71,7 +77,7 @@ fn the_worked_day(rt: HostRuntime) -> Result<(), Fail> {
     let Ok(pile) = Reserve::new(cap, 0, Phases::of(0x0004_0004_0004)) else {
         return Err(Fail::new("tall reserve"));
     };
-    play(&rt, &mut Book::new(1, pile), &mut aside(), &STEPS)
+    play(&rt, "phases", &mut Book::new(1, pile), &mut aside(), &STEPS)
 }
 
 #[test]
@@ -82,5 +88,5 @@ fn a_store_of_32_on_each_phase(rt: HostRuntime) -> Result<(), Fail> {
         (Call::Order, Due::Named(&[0])),
     ];
     let pile = Store::new(Phases::of(0x0020_0020_0020));
-    play(&rt, &mut Book::new(1, pile), &mut aside(), &STEPS)
+    play(&rt, "phases", &mut Book::new(1, pile), &mut aside(), &STEPS)
 }

@@ -8,7 +8,7 @@ pub unreachable-requires : goal.unreachable-requires
 unreachable-requires g c =
     let st = state_of g.A.Amount.ops g.A.Archived.width g.A.Archived.decode g.P.Pool.limits c.args.book.now in
     let out = subst (λ h. Held st h) c.in-Some-held-2.is c.requires in
-    one_slip g.A.Amount.ops st c.in-Ask.bay c.of-in-Ask.result c.args.sheet.now _ c.in-Some-held-2.-other c.in-Ok-ask.ensures.answer out
+    one_slip g.A.Amount.ops st c.in-Ask.bay c.of-in-Ask.result c.args.sheet.now _ c.in-Some-held-2._other c.in-Ok-ask.ensures.answer out
 
 pub returns-in-Open : goal.returns-in-Open
 returns-in-Open g c =
