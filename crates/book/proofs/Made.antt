@@ -1,5 +1,5 @@
 -- A book that was just made.
-use Rattle.std.proofs.Common.{◌≡◌, ℕ, zero, suc, ◌+◌, Bool, true, false, cond, not, List, [], ◌∷◌, map, replicate, is_some, Some, None, Decides, Option, sym, refl, ap, ◌∙◌, subst}
+use Rattle.std.proofs.Common.{◌≡◌, ℕ, zero, suc, ◌+◌, Bool, true, false, cond, not, List, [], ◌∷◌, map, replicate, is_some, Some, None, Decides, Option, sym, refl, ap, ◌∙◌}
 use Rattle.amount.specs.Arithmetic.{Ops, Laws, bind}
 use Rattle.pool.specs.Limits.{Limit, Idle, lowest_place}
 use Rattle.orders.proofs.Walked.{true_false}

@@ -1,10 +1,10 @@
 -- What the calls come to, once their tests are known.
-use Rattle.std.proofs.Common.{◌≡◌, ℕ, ◌≤◌, Bool, true, false, cond, not, ◌||◌, eqb, leb, List, [], ◌∷◌, map, get_or, set, is_some, Some, None, Ok, Err, Option, Result, unwrap_or, sym, refl, ap, ◌∙◌, subst, ap₂, arith}
+use Rattle.std.proofs.Common.{◌≡◌, ℕ, ◌≤◌, true, false, not, eqb, leb, List, set, is_some, Some, None, Ok, Err, Option, unwrap_or, sym, refl, ap, ◌∙◌, ap₂, arith}
 use lib.Seq.{map-set}
 use Rattle.std.proofs.lemmas.Bool.{lt-leb, leb-true}
 use Rattle.amount.specs.Arithmetic.{Ops}
 use Rattle.pool.specs.Changes.{Changed, fault_at}
-use Rattle.pool.specs.Limits.{Limit, told, told_place, unless, given_back, torn_place}
+use Rattle.pool.specs.Limits.{Limit, told_place, unless}
 use Rattle.pool.specs.declared.limit_fault.LimitFault.{LimitFault}
 use Rattle.orders.proofs.Bays.{some_none}
 use Rattle.orders.specs.Sessions.{with_holding}
@@ -26,7 +26,7 @@ use Rattle.book.specs.Books.{state_with}
 use Rattle.book.specs.Tables.{no_row, row_in, known, sitting, spending}
 use Rattle.book.specs.declared.table.Table.{Table}
 use Rattle.book.specs.declared.slip.Slip.{Slip}
-use Rattle.book.proofs.Read.{known_ok, unspent_by, spends_by, ok_err, same_err, row_is, calm, refused_by, Sitting, ok_by}
+use Rattle.book.proofs.Read.{known_ok, unspent_by, spends_by, ok_err, same_err, row_is, calm, refused_by, ok_by}
 
 -- the pile allowed the change, or refused it
 pub change_made : {A : Type 0} (o : Ops A) (x : Option ℕ) (new ls exit : List (Limit A)) → Changed (unless o x new) ls exit (Ok tt) → (x ≡ None) × (exit ≡ new)

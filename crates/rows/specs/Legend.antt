@@ -1,6 +1,6 @@
 -- The legend: each refusal of the book with its number and its value. Assumes nothing.
 use Rattle.std.specs.Prelude.{ℕ, Some, None, Option}
-use Rattle.law.specs.Book.{Answer, refused, accepted}
+use Rattle.law.specs.Book.{Answer, refused}
 use Rattle.rows.specs.declared.refusal.Refusal.{Refusal}
 use Rattle.rows.specs.declared.refusal.Refusal.TheVariants.{Shut, NoBay, NoMark, Moving, Taken, Empty, TallClaim, AboveClaim, NoRoom, PutOff, MoreThanHeld, ShortSheet, WrongSlip, Torn}
 

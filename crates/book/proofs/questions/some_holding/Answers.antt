@@ -1,4 +1,4 @@
-use Rattle.std.proofs.Common.{◌≡◌, ◌<◌, ◌≤◌, map, length, is_some, None, sym, refl, ap, ◌∙◌, arith}
+use Rattle.std.proofs.Common.{◌<◌, ◌≤◌, map, length, is_some, None, sym, refl, ap, ◌∙◌, arith}
 use Rattle.pool.specs.Limits.{lowest_place}
 use Rattle.law.specs.Book.{seen, holds_any}
 use Rattle.rows.specs.Rows.{row_of}

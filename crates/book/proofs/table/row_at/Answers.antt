@@ -1,4 +1,4 @@
-use Rattle.std.proofs.Common.{◌≡◌, ◌≤◌, cond, length, get_or, Some, None, sym, ap, arith}
+use Rattle.std.proofs.Common.{◌≤◌, cond, length, get_or, Some, None, sym, ap, arith}
 use Rattle.std.proofs.lemmas.List.{get_or_past}
 use Rattle.std.proofs.lemmas.Bool.{le-leb}
 use Rattle.book.specs.Tables.{no_row}

@@ -1,4 +1,4 @@
-use Rattle.std.proofs.Common.{◌≡◌, ◌+◌, ◌<◌, ◌≤◌, map, length, take, None, sym, refl, ap, ◌∙◌, arith}
+use Rattle.std.proofs.Common.{◌+◌, ◌<◌, map, length, take, None, sym, refl, ap, ◌∙◌, arith}
 use Rattle.law.specs.Book.{seen}
 use Rattle.rows.specs.Rows.{row_of}
 use Rattle.search.proofs.Seated.{seats_full}

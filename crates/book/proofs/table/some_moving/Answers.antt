@@ -1,4 +1,4 @@
-use Rattle.std.proofs.Common.{◌≡◌, ◌<◌, ◌≤◌, length, is_some, ap, arith}
+use Rattle.std.proofs.Common.{◌<◌, ◌≤◌, length, is_some, ap, arith}
 use Rattle.pool.specs.Limits.{lowest_place}
 use Rattle.search.proofs.Lowest.{from_start, lowest_here, lowest_past, lowest_none}
 use Rattle.book.specs.Tables.{moves, no_row}

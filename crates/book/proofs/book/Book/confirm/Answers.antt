@@ -1,4 +1,4 @@
-use Rattle.std.proofs.Common.{◌≡◌, set, sym, refl, ap, ◌∙◌}
+use Rattle.std.proofs.Common.{◌≡◌, set, sym, refl, ap}
 use Rattle.law.specs.Book.{State, accepted, done, confirms, confirm_answer, confirmed, answer}
 use Rattle.law.specs.Book as machine
 use Rattle.rows.specs.Rows.{session_in}

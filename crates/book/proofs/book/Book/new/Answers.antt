@@ -1,4 +1,4 @@
-use Rattle.std.proofs.Common.{◌≡◌, Bool, not, ◌||◌, leb, List, map, sym, refl, ap, ◌∙◌, subst, ap₂}
+use Rattle.std.proofs.Common.{Bool, not, ◌||◌, leb, List, sym, ap, ◌∙◌, subst, ap₂}
 use Rattle.law.specs.Book.{State}
 use Rattle.law.specs.Book as machine
 use Rattle.law.proofs.Day.{law_of_days}

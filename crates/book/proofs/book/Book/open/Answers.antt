@@ -1,13 +1,11 @@
-use Rattle.std.proofs.Common.{◌≡◌, Some, None, Option, sym, refl, ap, ◌∙◌}
+use Rattle.std.proofs.Common.{◌≡◌, sym, refl, ap, ◌∙◌}
 use Rattle.std.proofs.lemmas.Result.{err_from_is_err_and}
 use Rattle.std.proofs.lemmas.Bool.{leb-false}
-use Rattle.pool.specs.Limits.{told_place, tall_place}
-use Rattle.orders.specs.Sessions.{Session}
+use Rattle.pool.specs.Limits.{tall_place}
 use Rattle.law.specs.Book.{accepted, done, guard_at, opens, answer}
 use Rattle.law.specs.Book as machine
 use Rattle.rows.proofs.Cells.{reads_written}
 use Rattle.rows.specs.Cells.{amount_in}
-use Rattle.rows.specs.Legend.{refusal}
 use Rattle.rows.specs.Rows.{session_in}
 use Rattle.rows.specs.declared.refusal.Refusal.TheVariants.{TallClaim as OfLimit, Moving as Slipped}
 use Rattle.rows.specs.declared.row.RowState.TheVariants.{AtRest}

@@ -8,7 +8,6 @@ use Rattle.rows.specs.Legend.{refusal}
 use Rattle.rows.specs.Rows.{session_in}
 use Rattle.rows.specs.declared.effect.RowCall.TheVariants.{Withdraw}
 use Rattle.rows.specs.declared.refusal.Refusal.TheVariants.{Torn as OfLimit}
-use Rattle.rows.specs.declared.row.RowState.TheVariants.{AtRest}
 use Rattle.book.specs.Replies.{slip_of}
 use Rattle.book.proofs.Read.{fits}
 use Rattle.book.specs.Tables.{row_in}

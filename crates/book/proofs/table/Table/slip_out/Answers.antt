@@ -1,4 +1,4 @@
-use Rattle.std.proofs.Common.{◌≡◌, is_some, ap, ◌∙◌}
+use Rattle.std.proofs.Common.{is_some, ap, ◌∙◌}
 use Rattle.book.proofs.Read.{slip_is}
 use Rattle.book.proofs.table.Table.slip_out.Goals as goal
 

@@ -1,4 +1,4 @@
-use Rattle.std.proofs.Common.{◌≡◌, ◌<◌, length, take, sym, refl, ap, ◌∙◌, arith, length-set}
+use Rattle.std.proofs.Common.{◌≡◌, ◌<◌, length, take, refl, ap, ◌∙◌, arith, length-set}
 use Rattle.law.specs.SafeOrder.{safe_order}
 use Rattle.search.specs.Seats.{without}
 use Rattle.search.proofs.Steps.{none_named, one_named, all_named, full_named, one_emptied}
