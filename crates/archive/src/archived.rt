@@ -33,7 +33,9 @@ pub trait Archived: Amount {
     fn write(self, out: &mut [u8]) -> Result<(), WrongLength>
         ensures { Wrote width (bytes self) out.old out.new result };
 
+    // the constant tells that number
     ghost wide: { (w : Self.Width) → Self.Width.ByteCount.count w ≡ width };
 
+    // bytes and amounts are one for one
     ghost codec: { Codec width bytes decode };
 }

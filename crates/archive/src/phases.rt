@@ -1,6 +1,6 @@
+ghost use Rattle.std.specs.Prelude.{refl};
 ghost use Rattle.archive.specs.Kinds.{phases_bytes, phases_decode};
 ghost use Rattle.archive.specs.Codecs.{phases_codec};
-ghost use Rattle.std.proofs.Common.{rules};
 
 use crate::archived::{Archived, WrongLength};
 use crate::width::Fixed;
@@ -17,7 +17,7 @@ impl Archived for Phases {
 
     ghost decode = { phases_decode };
 
-    ghost wide = { Prim.search rules };
+    ghost wide = { λ _. refl };
 
     ghost codec = { phases_codec };
 

@@ -1,7 +1,6 @@
-ghost use Rattle.std.specs.Prelude.{◌≡◌, [], ◌∷◌};
+ghost use Rattle.std.specs.Prelude.{◌≡◌, [], ◌∷◌, refl};
 ghost use Rattle.pool.specs.Limits.{limit, every_number};
 ghost use Rattle.pool.specs.Piles.{store_limits};
-ghost use Rattle.std.proofs.Common.{rules};
 
 use crate::gauge::Gauge;
 use crate::limit_fault::LimitFault;
@@ -28,7 +27,7 @@ impl<A: Amount> Store<A> {
 impl<A: Amount> Pool<A> for Store<A> {
     ghost limits = { store_limits };
 
-    ghost grounded = { Prim.search rules };
+    ghost grounded = { λ _ _. refl };
 
     fn tall(&self, _mark: u8, amount: A) -> Option<u8> {
         if self.gauge.holds(amount) {
