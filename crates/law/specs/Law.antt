@@ -68,7 +68,7 @@ pub record Moment {A : Type 0} (o : Ops A) (bs : List (Bound A)) (k : ℕ) (st :
   -- the book answers a 64-byte sheet with an order
   pub order : List ℕ
   pub ordered_so : (sheet : List ℕ) → 64 ≤ length sheet → (answer o st (orders sheet) ≡ accepted (ordered (length order))) × (sheet_after o st (orders sheet) ≡ filled o order sheet)
-  -- which is the lowest_first completion order of the tally
+  -- which is the lowest-first completion order of the tally
   pub lowest_first : LowestFirst o bs (sessions t) order
   pub completes : Order o bs (sessions t) order
   -- played, it is accepted throughout and leaves nothing out

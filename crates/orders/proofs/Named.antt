@@ -1,4 +1,4 @@
--- An order names each open bay once, and there is one lowest_first order.
+-- An order names each open bay once, and there is one lowest-first order.
 use Rattle.std.proofs.Common.{◌≡◌, ℕ, suc, ◌<◌, cond, eqb, List, [], ◌∷◌, None, sym, refl, ap, ◌∙◌, subst, arith, get_or-set_other, eq-eqb}
 use native.Mathlib.Decide.{ℕ_discrete, dec_lt}
 use borrow.Author.Tests.{apart_eqb}

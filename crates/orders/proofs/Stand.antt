@@ -11,7 +11,7 @@ use Rattle.orders.proofs.Planned.{moves_order, order_moves}
 use Rattle.orders.proofs.Walked.{open_length, order_length, lowest_order, walk_names, walk_order}
 
 module _ {A : Type 0} (o : Ops A) (L : Laws o) where
-  -- where an order exists, the walk is the lowest_first one
+  -- where an order exists, the walk is the lowest-first one
   found : (bs : List (Bound A)) (t : Bays A) (is : List ℕ) → Order o bs t is → LowestFirst o bs t (lowest_walk o bs t)
   found bs t is r = walk_order o L bs (length t) t is (open_length t) r
 

@@ -1,4 +1,4 @@
--- The lowest_first walk finds an order where there is one.
+-- The lowest-first walk finds an order where there is one.
 use Rattle.std.proofs.Common.{◌≡◌, ℕ, zero, suc, ◌+◌, ◌<◌, ◌≤◌, Bool, true, false, cond, ◌⊎◌, List, [], ◌∷◌, length, Some, None, Option, sym, refl, ap, ◌∙◌, subst, inl, inr, arith}
 use Rattle.amount.specs.Arithmetic.{Laws, Ops, bind}
 use Rattle.pool.specs.Limits.{Bound}
@@ -96,7 +96,7 @@ module _ {A : Type 0} (o : Ops A) (ls : List (Bound A)) where
   pub not_next : (t : Bays A) (j : ℕ) → ready o ls t (bay t j) ≡ false → ¬ (Next o ls t j)
   not_next t j h x = true_false (next_ready t j x) h
 
-  -- a walk that names as many bays as are open is a lowest_first order
+  -- a walk that names as many bays as are open is a lowest-first order
   pub walk_names : (n : ℕ) (t : Bays A) → length (walk o ls n t) ≡ open_bays t → LowestFirst o ls t (walk o ls n t)
   walk_names zero t h = open_vacant t (sym h)
   walk_names (suc n) t h = go (lowest o ls t t) refl h (λ i. walk_names n (emptied t i))

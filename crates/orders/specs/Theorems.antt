@@ -6,7 +6,7 @@ use Rattle.orders.specs.Orders.{Order, LowestFirst, lowest_walk, times, once}
 use Rattle.orders.specs.Planner.{Succeeds}
 use Rattle.orders.specs.Sessions.{Bays, bay, open_bays, WithinCeilings}
 
--- the walk names every open bay exactly when some completion order exists, and is then the lowest_first one, and the only one
+-- the walk names every open bay exactly when some completion order exists, and is then the lowest-first one, and the only one
 pub record WalkComplete {A : Type 0} (o : Ops A) : Type 0 where
   pub exists : (bs : List (Bound A)) (t : Bays A) → ((is : List ℕ) × Order o bs t is) ↔ (length (lowest_walk o bs t) ≡ open_bays t)
   pub lowest : (bs : List (Bound A)) (t : Bays A) → length (lowest_walk o bs t) ≡ open_bays t → LowestFirst o bs t (lowest_walk o bs t)
