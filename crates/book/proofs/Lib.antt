@@ -4,3 +4,4 @@ pub mod Found
 pub mod Made
 pub mod Read
 pub mod Steps
+pub mod Untorn

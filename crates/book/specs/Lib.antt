@@ -1,4 +1,5 @@
 pub mod Books
 pub mod Days
+pub mod Faults
 pub mod Replies
 pub mod Tables

@@ -1,6 +1,7 @@
-ghost use Rattle.std.specs.Prelude.{◌≡◌};
+ghost use Rattle.std.specs.Prelude.{◌≡◌, IfErr};
 ghost use Rattle.law.specs.Book.{opens, gives, ends, answer, step};
 ghost use Rattle.book.specs.Books.{state_of};
+ghost use Rattle.book.specs.Faults.{torn_give, torn_end, TornAt};
 ghost use Rattle.book.specs.Replies.{of_done};
 
 use crate::book::Book;
@@ -38,6 +39,7 @@ impl<A: Archived, P: Pool<A>> Book<A, P> {
     pub fn give(&mut self, bay: u8, amount: A) -> Result<(), Refusal>
         ensures answer { of_done result ≡ answer A.Amount.ops (state_of A.Amount.ops A.Archived.width A.Archived.decode P.Pool.limits self.old) (gives bay amount) }
         ensures after { state_of A.Amount.ops A.Archived.width A.Archived.decode P.Pool.limits self.new ≡ step A.Amount.ops (state_of A.Amount.ops A.Archived.width A.Archived.decode P.Pool.limits self.old) (gives bay amount) }
+        ensures fault { IfErr result (TornAt (torn_give A.Amount.ops (state_of A.Amount.ops A.Archived.width A.Archived.decode P.Pool.limits self.old) bay amount)) }
     {
         let (next, session) = self.table.sitting::<A>(bay, RowCall::Give)?;
         let Some(rest) = session.holding.minus(amount) else {
@@ -58,6 +60,7 @@ impl<A: Archived, P: Pool<A>> Book<A, P> {
     pub fn end(&mut self, bay: u8) -> Result<(), Refusal>
         ensures answer { of_done result ≡ answer A.Amount.ops (state_of A.Amount.ops A.Archived.width A.Archived.decode P.Pool.limits self.old) (ends bay) }
         ensures after { state_of A.Amount.ops A.Archived.width A.Archived.decode P.Pool.limits self.new ≡ step A.Amount.ops (state_of A.Amount.ops A.Archived.width A.Archived.decode P.Pool.limits self.old) (ends bay) }
+        ensures fault { IfErr result (TornAt (torn_end A.Amount.ops (state_of A.Amount.ops A.Archived.width A.Archived.decode P.Pool.limits self.old) bay)) }
     {
         let (next, session) = self.table.sitting::<A>(bay, RowCall::End)?;
         match self.pile.give(session.mark, session.holding) {

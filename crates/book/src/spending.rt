@@ -1,6 +1,7 @@
-ghost use Rattle.std.specs.Prelude.{◌≡◌};
+ghost use Rattle.std.specs.Prelude.{◌≡◌, IfErr};
 ghost use Rattle.law.specs.Book.{confirms, withdraws, answer, step};
 ghost use Rattle.book.specs.Books.{state_of};
+ghost use Rattle.book.specs.Faults.{torn_withdraw, TornAt};
 ghost use Rattle.book.specs.Replies.{slip_of, of_spent, HandedBack};
 
 use crate::book::Book;
@@ -32,6 +33,7 @@ impl<A: Archived, P: Pool<A>> Book<A, P> {
         ensures answer { of_spent result ≡ answer A.Amount.ops (state_of A.Amount.ops A.Archived.width A.Archived.decode P.Pool.limits self.old) (withdraws (slip_of slip)) }
         ensures after { state_of A.Amount.ops A.Archived.width A.Archived.decode P.Pool.limits self.new ≡ step A.Amount.ops (state_of A.Amount.ops A.Archived.width A.Archived.decode P.Pool.limits self.old) (withdraws (slip_of slip)) }
         ensures slip { HandedBack slip result }
+        ensures fault { IfErr result (λ u. TornAt (torn_withdraw A.Amount.ops (state_of A.Amount.ops A.Archived.width A.Archived.decode P.Pool.limits self.old) slip.bay) u.refusal) }
     {
         match self.table.spending::<A>(&slip, RowCall::Withdraw) {
             Err(refusal) => Err(Unspent { refusal, slip }),

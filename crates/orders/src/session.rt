@@ -8,6 +8,7 @@ pub struct Session<A> {
     pub holding: A,
 }
 
+// Contracts see it as the session of the definitions.
 impl<A> Model for Session<A> {
     ghost use Rattle.orders.specs.Sessions.{Session as Seated};
 

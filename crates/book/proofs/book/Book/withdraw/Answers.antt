@@ -1,5 +1,6 @@
-use Rattle.std.proofs.Common.{◌≡◌, is_some, List, set, unwrap_or, sym, refl, ap, ◌∙◌, ap₂}
-use Rattle.pool.specs.Limits.{Limit, torn_place, given_back}
+use Rattle.std.proofs.Common.{◌≡◌, Some, is_some, List, set, unwrap_or, sym, refl, ap, ◌∙◌, ap₂}
+use Rattle.pool.specs.Limits.{Limit, told_place, torn_place, given_back}
+use Rattle.pool.specs.declared.limit_fault.LimitFault.{LimitFault}
 use Rattle.orders.specs.Sessions.{with_holding}
 use Rattle.law.specs.Book.{State, accepted, done, guard, row, withdraws, withdraw_answer, withdrawn, give_back, answer}
 use Rattle.law.specs.Book as machine
@@ -12,6 +13,8 @@ use Rattle.book.specs.Replies.{slip_of}
 use Rattle.book.proofs.Read.{fits}
 use Rattle.book.specs.Tables.{row_in}
 use Rattle.book.proofs.Steps.{state, stays, changes, same_limits, rests_now, less_or, change_made, change_refused, spending_refused, spending_ok}
+use Rattle.book.specs.Faults.{torn_portion, torn_withdraw}
+use Rattle.book.proofs.Untorn.{spending_untorn}
 use Rattle.book.proofs.book.Book.withdraw.Goals as goal
 
 pub returns-in-Err : goal.returns-in-Err
@@ -27,7 +30,7 @@ returns-in-Err g c =
     let past = c.spending.ensures.past in
     let e = c.in-Err.refusal in
     let h = spending_refused o w decode t ls Withdraw refl refl refl slip past e (withdraw_answer o st) refl (λ s. refl) c.in-Err.ensures.answer in
-    record { answer = h; after = stays o w decode t ls (withdraws (slip_of slip)) e h; slip = refl }
+    record { answer = h; after = stays o w decode t ls (withdraws (slip_of slip)) e h; slip = refl; fault = spending_untorn w t slip Withdraw e (torn_withdraw o st slip.bay) c.in-Err.ensures.answer }
 
 pub returns-in-Err-give : goal.returns-in-Err-give
 returns-in-Err-give g c =
@@ -48,7 +51,7 @@ returns-in-Err-give g c =
     let through : answer o st (withdraws (slip_of slip)) ≡ guard (is_some (torn_place o st.pile u.mark a)) 14 (accepted done) = x.through (withdraw_answer o st) ∙ ap (λ y. guard (is_some (torn_place o st.pile u.mark y)) 14 (accepted done)) (sym ep) in
     let y = change_refused o (torn_place o st.pile u.mark a) (given_back o u.mark a st.pile) st.pile (limits c.give.new.self) _ c.in-Err-give.ensures in
     let h = ap (λ e. refusal (OfLimit e)) y.2 ∙ sym (through ∙ ap (λ p. guard (is_some p) 14 (accepted done)) y.1) in
-    record { answer = h; after = same_limits o w decode t ls (limits c.give.new.self) y.3 ∙ stays o w decode t ls (withdraws (slip_of slip)) (OfLimit c.in-Err-give.fault) h; slip = refl }
+    record { answer = h; after = same_limits o w decode t ls (limits c.give.new.self) y.3 ∙ stays o w decode t ls (withdraws (slip_of slip)) (OfLimit c.in-Err-give.fault) h; slip = refl; fault = ap (λ r. told_place (torn_portion o st r)) moves ∙ ap told_place y.1 ∙ ap (λ (z : LimitFault). Some z.place) (sym y.2) }
 
 pub returns-in-Ok-give : goal.returns-in-Ok-give
 returns-in-Ok-give g c =
@@ -74,4 +77,4 @@ returns-in-Ok-give g c =
     let F : List (Limit g.row.A.Denot) → machine.Row g.row.A.Denot → State g.row.A.Denot = λ ls r. record { shut = st.shut; number = st.number; pile = ls; rows = set st.rows slip.bay r } in
     let m = ap₂ F (y.1 ∙ sym (ap (give_back o st.pile) moves)) (less_or o u a ∙ sym (ap (withdrawn o) moves)) in
     let read = reads_written w g.A.Archived.bytes decode o.zero g.met.A.Archived.codec (fits w t.shut x.opened) c.unwrap_or.result (row_in t slip.bay).holding c.write.new.self c.write.ensures ∙ left in
-    record { answer = h; after = changes o w decode t ls (withdraws (slip_of slip)) done slip.bay _ (limits c.give.new.self) (machine.rest (with_holding u rest)) h (rests_now o w decode t ls slip.bay _ rest u x.turns refl refl read refl) m; slip = tt }
+    record { answer = h; after = changes o w decode t ls (withdraws (slip_of slip)) done slip.bay _ (limits c.give.new.self) (machine.rest (with_holding u rest)) h (rests_now o w decode t ls slip.bay _ rest u x.turns refl refl read refl) m; slip = tt; fault = tt }
