@@ -1,13 +1,18 @@
 -- Counts below any limit keep the laws; whole amperes are such counts.
-use Rattle.std.specs.Prelude.{◌≡◌, ℕ, ◌+◌, ◌-◌, ◌<◌, ◌≤◌, Some, None, refl}
+use Rattle.std.specs.Prelude.{◌≡◌, ℕ, ◌+◌, ◌-◌, ◌<◌, ◌≤◌, Some, None, Option, refl}
 use Rattle.std.proofs.Common.{sym, ap, ◌∙◌, add_comm, add_assoc, arith}
 use Rattle.std.proofs.Math.Bridge.{le_prop}
 use Rattle.std.proofs.Math.Decide.{dec_lt, dec_le}
 use Rattle.std.proofs.lemmas.Bool.{eqb-true, eq-eqb}
+use Rattle.std.specs.Option.{MatchOption, IsSomeAnd, SomeIff}
 use Rattle.amount.specs.Arithmetic.{Ops, Laws, bind}
 use Rattle.amount.specs.Counts.{fitted, count_ops, amps, amps_number, amps_ops}
 use Rattle.amount.specs.declared.amps.Amps.{Amps}
 use Rattle.amount.specs.Partial.{some_inj, never, given_yes, given_no}
+
+-- a count is made of the number, where there is one
+abbrev pub Makes : {T : Type 0} → Option ℕ → Option T → (ℕ → T → Type 0) → Type 0
+Makes n r P = MatchOption n (r ≡ None) (λ x. IsSomeAnd r (P x))
 
 -- the values of T are the numbers below the limit, one for one
 pub record Counted {T : Type 0} (limit : ℕ) (make : (n : ℕ) → n < limit → T) (number : T → ℕ) : Type 0 where
@@ -74,18 +79,16 @@ module _ {T : Type 0} {limit : ℕ} {make : (n : ℕ) → n < limit → T} {numb
       equality = λ a b. (λ e. number_inj a b (eqb-true (number a) (number b) e), λ e. eq-eqb (number a) (number b) (ap number e));
     }
 
-    -- what code shows of a sum and a difference
-    pub sum_made : (a b c : T) → number c ≡ number a + number b → Some c ≡ ops.plus a b
-    sum_made a b c e = sym (fitted_number c) ∙ ap (fitted limit make) e
+    -- what code shows of a sum and a difference, first as a number
+    pub sum_shown : (a b : T) (n : Option ℕ) (r : Option T) {P : ℕ → T → Type 0} → SomeIff n (number a + number b < limit) (number a + number b) → Makes n r P → ((x : ℕ) (c : T) → P x c → number c ≡ x) → r ≡ ops.plus a b
+    sum_shown a b None r s m f = m ∙ sym (fitted_none (number a + number b) (omega arith))
+    sum_shown a b (Some x) None s m f = absurd m
+    sum_shown a b (Some x) (Some c) s m f = sym (fitted_number c) ∙ ap (fitted limit make) (f x c m ∙ s.1)
 
-    pub sum_over : (a b : T) → limit ≤ number a + number b → None ≡ ops.plus a b
-    sum_over a b h = sym (fitted_none (number a + number b) h)
-
-    pub minus_made : (a b c : T) → number a ≤ number b → number c ≡ number b - number a → Some c ≡ ops.minus b a
-    minus_made a b c h e = sym (fitted_number c) ∙ ap (fitted limit make) e ∙ sym (minus_some a b h)
-
-    pub minus_over : (a b : T) → number b < number a → None ≡ ops.minus b a
-    minus_over a b h = sym (minus_none a b h)
+    pub minus_shown : (a b : T) (n : Option ℕ) (r : Option T) {P : ℕ → T → Type 0} → SomeIff n (number a ≤ number b) (number b - number a) → Makes n r P → ((x : ℕ) (c : T) → P x c → number c ≡ x) → r ≡ ops.minus b a
+    minus_shown a b None r s m f = m ∙ sym (minus_none a b (omega arith))
+    minus_shown a b (Some x) None s m f = absurd m
+    minus_shown a b (Some x) (Some c) s m f = sym (fitted_number c) ∙ ap (fitted limit make) (f x c m ∙ s.1) ∙ sym (minus_some a b s.0)
 
 -- amperes as such counts
 pub amps_counted : Counted 65536 amps amps_number
@@ -101,14 +104,8 @@ amps_laws = count_laws amps_counted amps_ops.zero refl
 pub amps_eq : (a b : Amps) → a.value ≡ b.value → a ≡ b
 amps_eq = number_inj amps_counted
 
-pub amps_sum_made : (a b c : Amps) → c.value ≡ a.value + b.value → Some c ≡ amps_ops.plus a b
-amps_sum_made = sum_made amps_counted amps_ops.zero refl
+pub amps_sum_shown : (a b : Amps) (n : Option ℕ) (r : Option Amps) {P : ℕ → Amps → Type 0} → SomeIff n (a.value + b.value < 65536) (a.value + b.value) → Makes n r P → ((x : ℕ) (c : Amps) → P x c → c.value ≡ x) → r ≡ amps_ops.plus a b
+amps_sum_shown = sum_shown amps_counted amps_ops.zero refl
 
-pub amps_sum_over : (a b : Amps) → 65536 ≤ a.value + b.value → None ≡ amps_ops.plus a b
-amps_sum_over = sum_over amps_counted amps_ops.zero refl
-
-pub amps_minus_made : (a b c : Amps) → a.value ≤ b.value → c.value ≡ b.value - a.value → Some c ≡ amps_ops.minus b a
-amps_minus_made = minus_made amps_counted amps_ops.zero refl
-
-pub amps_minus_over : (a b : Amps) → b.value < a.value → None ≡ amps_ops.minus b a
-amps_minus_over = minus_over amps_counted amps_ops.zero refl
+pub amps_minus_shown : (a b : Amps) (n : Option ℕ) (r : Option Amps) {P : ℕ → Amps → Type 0} → SomeIff n (a.value ≤ b.value) (b.value - a.value) → Makes n r P → ((x : ℕ) (c : Amps) → P x c → c.value ≡ x) → r ≡ amps_ops.minus b a
+amps_minus_shown = minus_shown amps_counted amps_ops.zero refl

@@ -14,20 +14,14 @@ impl Amount for Amps {
     }
 
     fn plus(self, other: Amps) -> Option<Amps> {
-        match self.value.checked_add(other.value) {
-            Some(value) => Some(Amps { value }),
-            None => None,
-        }
+        self.value.checked_add(other.value).map(Amps::from)
     }
 
     fn minus(self, part: Amps) -> Option<Amps> {
-        match self.value.checked_sub(part.value) {
-            Some(value) => Some(Amps { value }),
-            None => None,
-        }
+        self.value.checked_sub(part.value).map(Amps::from)
     }
 
     fn same(self, other: Amps) -> bool {
-        self.value == other.value
+        self == other
     }
 }

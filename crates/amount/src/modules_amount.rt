@@ -34,6 +34,6 @@ impl Amount for Modules {
     }
 
     fn same(self, other: Modules) -> bool {
-        self.names == other.names
+        self == other
     }
 }

@@ -4,7 +4,7 @@ ghost use Rattle.amount.specs.PairLaws.{pair_laws};
 use crate::amount::Amount;
 
 // One amount of each of two kinds.
-#[derive(Clone, Copy)]
+#[derive(Clone, Copy, Debug, PartialEq, Eq)]
 pub struct Pair<L, R> {
     pub left: L,
     pub right: R,

@@ -5,7 +5,7 @@ use crate::amount::Amount;
 use crate::amps::Amps;
 
 // Whole amperes on the phases L1, L2 and L3.
-#[derive(Clone, Copy)]
+#[derive(Clone, Copy, Debug, PartialEq, Eq)]
 pub struct Phases {
     pub l1: Amps,
     pub l2: Amps,
@@ -40,6 +40,6 @@ impl Amount for Phases {
     }
 
     fn same(self, other: Phases) -> bool {
-        self.l1.same(other.l1) && self.l2.same(other.l2) && self.l3.same(other.l3)
+        self == other
     }
 }
