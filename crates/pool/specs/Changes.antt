@@ -1,5 +1,5 @@
 -- What a call that changes a pile answers and leaves. Assumes nothing.
-use Rattle.std.specs.Prelude.{◌≡◌, ℕ, List, Ok, Err, Result}
+use Rattle.std.specs.Prelude.{◌≡◌, ℕ, List, [], ◌∷◌, ◌++◌, length, Some, None, Ok, Err, Option, Result}
 use Rattle.pool.specs.declared.limit_fault.LimitFault.{LimitFault}
 use Rattle.pool.specs.Limits.{Limit, told}
 
@@ -11,3 +11,8 @@ fault_at n = record { place = told n }
 abbrev pub Changed : {A : Type 0} → Result (List (Limit A)) ℕ → List (Limit A) → List (Limit A) → Result (Unit {0}) LimitFault → Type 0
 Changed (Ok new) entry exit r = (r ≡ Ok tt) × (exit ≡ new)
 Changed (Err n) entry exit r = (r ≡ Err (fault_at n)) × (exit ≡ entry)
+
+-- by what would be out at a limit above a pile that allows the change: the answer, and the list at the exit; a refusal leaves both
+abbrev pub ChangedAbove : {A : Type 0} → Option A → List (Limit A) → List (Limit A) → Limit A → List (Limit A) → Result (Unit {0}) LimitFault → Type 0
+ChangedAbove (Some out) old new l exit r = (r ≡ Ok tt) × (exit ≡ new ++ (record { bound = l.bound; out = out } ∷ []))
+ChangedAbove None old new l exit r = (r ≡ Err (fault_at (length old))) × (exit ≡ old ++ (l ∷ []))

@@ -4,4 +4,3 @@ pub mod Piles
 pub mod Reserves
 pub mod Theorems
 pub mod Pushed
-pub mod Places

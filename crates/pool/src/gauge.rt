@@ -1,10 +1,18 @@
-ghost use Rattle.std.specs.Prelude.{◌≡◌, if◌then◌else◌, Some as There, Decides};
+ghost use Rattle.std.specs.Prelude.{◌≡◌, ◌↔◌, Ok, Err, IsTrue, IfSome, IfNone};
 ghost use Rattle.pool.specs.Limits.{part, room};
 
+use crate::limit_fault::LimitFault;
 use amount::Amount;
 
+// What would be out with the amount more, where that is defined and part of the ceiling.
+pub fn room<A: Amount>(ceiling: A, out: A, amount: A) -> Option<A>
+    ensures { result ≡ room A.Amount.ops ceiling out amount }
+{
+    out.plus(amount).filter(|sum| ceiling.minus(*sum).is_some())
+}
+
 // A ceiling, and what is out under it.
-#[derive(Clone, Copy)]
+#[derive(Debug, Clone, Copy, PartialEq, Eq)]
 pub(crate) struct Gauge<A> {
     pub(crate) ceiling: A,
     pub(crate) out: A,
@@ -32,10 +40,7 @@ impl<A: Amount> Gauge<A> {
     pub(crate) fn grown(&self, amount: A) -> Option<A>
         ensures { result ≡ room A.Amount.ops self.now.ceiling self.now.out amount }
     {
-        match self.out.plus(amount) {
-            None => None,
-            Some(sum) => { if self.holds(sum) { Some(sum) } else { None } }
-        }
+        room(self.ceiling, self.out, amount)
     }
 
     // What would be out with the amount less, where so much is out.
@@ -45,30 +50,17 @@ impl<A: Amount> Gauge<A> {
         self.out.minus(amount)
     }
 
-    // What is out after a take, if that is allowed; where the limit does not watch, what is out now.
-    pub(crate) fn after_take(&self, watched: bool, amount: A) -> Option<A>
-        ensures { result ≡ (if watched then room A.Amount.ops self.now.ceiling self.now.out amount else There self.now.out) }
+    // From now on this much is out; refused by the limit at the place where the change has no such amount.
+    pub(crate) fn put(&mut self, out: Option<A>, place: u8) -> Result<(), LimitFault>
+        ensures changed { IfSome out (λ x. (result ≡ Ok tt) × (self.new ≡ record self.old { out = x })) }
+        ensures refused { IfNone out ((result ≡ Err (record { place = place })) × (self.new ≡ self.old)) }
     {
-        if watched {
-            self.grown(amount)
-        } else {
-            Some(self.out)
-        }
-    }
-
-    // The same of a give.
-    pub(crate) fn after_give(&self, watched: bool, amount: A) -> Option<A>
-        ensures { result ≡ (if watched then A.Amount.ops.minus self.now.out amount else There self.now.out) }
-    {
-        if watched {
-            self.shrunk(amount)
-        } else {
-            Some(self.out)
-        }
+        self.out = out.ok_or(LimitFault { place })?;
+        Ok(())
     }
 
     pub(crate) fn idle(&self) -> bool
-        ensures { Decides result (self.now.out ≡ A.Amount.ops.zero) }
+        ensures { IsTrue result ↔ (self.now.out ≡ A.Amount.ops.zero) }
     {
         self.out.same(A::zero())
     }

@@ -1,94 +1,96 @@
-ghost use Rattle.std.specs.Prelude.{◌≡◌, ℕ, Bool, length, Decides};
-ghost use Rattle.pool.specs.Limits.{told, told_place, tall_place, short_place, taking, giving, whole_of, Idle};
-ghost use Rattle.pool.specs.Changes.{Changed};
-ghost use Rattle.pool.specs.Piles.{layered};
+ghost use Rattle.std.specs.Prelude.{◌≡◌, ◌&&◌, if◌then◌else◌, [], ◌∷◌, ◌++◌, length, Some as There};
+ghost use Rattle.std.specs.Bool.{then_some};
+ghost use Rattle.std.specs.Option.{option_or};
+ghost use Rattle.pool.specs.Limits.{limit, told};
+ghost use Rattle.pool.specs.Changes.{ChangedAbove};
+ghost use Rattle.pool.specs.Piles.{gauged, layer_limits};
+ghost use Rattle.pool.specs.Pushed.{grounded_push};
 
 use crate::gauge::Gauge;
 use crate::limit_fault::LimitFault;
 use crate::pool::Pool;
+use crate::watch::Watch;
 use amount::Amount;
 
-// A pile, and one limit above it. Whether that limit watches the mark is told by the caller,
-// so that what is shown here holds for every set of watched numbers.
-#[derive(Clone, Copy)]
-pub(crate) struct Layer<A, P> {
+// A pile, and one limit above it for a set of mark numbers.
+#[derive(Debug, Clone, Copy, PartialEq, Eq)]
+pub struct Layer<A, P, W> {
     pub(crate) below: P,
+    pub(crate) watch: W,
     pub(crate) gauge: Gauge<A>,
 }
 
-impl<A: Amount, P: Pool<A>> Layer<A, P> {
-    // The place of the pile below, or this one's where it fails.
-    pub(crate) fn tall(&self, watched: bool, mark: u8, amount: A) -> Option<u8>
-        ensures { (w : ℕ → Bool) → w mark ≡ watched → result ≡ told_place (tall_place A.Amount.ops (layered (P.Pool.limits self.now.below) w self.now.gauge) mark amount) }
+impl<A: Amount, P: Pool<A>, W: Watch> Layer<A, P, W> {
+    // The pile with this limit above it, nothing out there.
+    pub(crate) fn over(below: P, watch: W, ceiling: A) -> Layer<A, P, W>
+        ensures { layer_limits P.Pool.limits W.Watch.watched result ≡ P.Pool.limits below ++ (limit (W.Watch.watched watch) ceiling A.Amount.ops.zero ∷ []) }
     {
-        let here = watched & !self.gauge.holds(amount);
-        let own = here.then_some(self.below.count());
-        self.below.tall(mark, amount).or(own)
-    }
-
-    pub(crate) fn short(&self, watched: bool, mark: u8, amount: A) -> Option<u8>
-        ensures { (w : ℕ → Bool) → w mark ≡ watched → result ≡ told_place (short_place A.Amount.ops (layered (P.Pool.limits self.now.below) w self.now.gauge) mark amount) }
-    {
-        let here = watched & !self.gauge.grown(amount).is_some();
-        let own = here.then_some(self.below.count());
-        self.below.short(mark, amount).or(own)
-    }
-
-    // This limit is asked first, so that the pile below changes only where nothing refuses.
-    // Where this one refuses, a trial tells whether a lower place does.
-    pub(crate) fn take(&mut self, watched: bool, mark: u8, amount: A) -> Result<(), LimitFault>
-        ensures { (w : ℕ → Bool) → w mark ≡ watched → Changed (taking A.Amount.ops (layered (P.Pool.limits self.old.below) w self.old.gauge) mark amount) (layered (P.Pool.limits self.old.below) w self.old.gauge) (layered (P.Pool.limits self.new.below) w self.new.gauge) result }
-    {
-        match self.gauge.after_take(watched, amount) {
-            Some(more) => {
-                self.below.take(mark, amount)?;
-                self.gauge.out = more;
-                Ok(())
-            }
-            None => {
-                let mut trial = self.below;
-                trial.take(mark, amount)?;
-                Err(LimitFault {
-                    place: self.below.count(),
-                })
-            }
+        Layer {
+            below,
+            watch,
+            gauge: Gauge::new(ceiling),
         }
     }
 
-    pub(crate) fn give(&mut self, watched: bool, mark: u8, amount: A) -> Result<(), LimitFault>
-        ensures { (w : ℕ → Bool) → w mark ≡ watched → Changed (giving A.Amount.ops (layered (P.Pool.limits self.old.below) w self.old.gauge) mark amount) (layered (P.Pool.limits self.old.below) w self.old.gauge) (layered (P.Pool.limits self.new.below) w self.new.gauge) result }
+    // The place of the pile below, or this one's where it watches the mark and fails.
+    fn lowest(&self, below: Option<u8>, mark: u8, fails: bool) -> Option<u8>
+        ensures { result ≡ option_or below (then_some (W.Watch.watched self.now.watch mark && fails) (told (length (P.Pool.limits self.now.below)))) }
     {
-        match self.gauge.after_give(watched, amount) {
-            Some(rest) => {
-                self.below.give(mark, amount)?;
-                self.gauge.out = rest;
-                Ok(())
-            }
-            None => {
-                let mut trial = self.below;
-                trial.give(mark, amount)?;
-                Err(LimitFault {
-                    place: self.below.count(),
-                })
-            }
-        }
+        let here = self.watch.watches(mark) & fails;
+        below.or(here.then_some(self.below.count()))
     }
 
-    pub(crate) fn whole(&self) -> A
-        ensures { (w : ℕ → Bool) → result ≡ whole_of A.Amount.ops (layered (P.Pool.limits self.now.below) w self.now.gauge) }
+    // This limit's part of a change that the pile below allows: `below` is that pile changed, `out` what would then be out here.
+    fn change(&mut self, mark: u8, below: P, out: Option<A>) -> Result<(), LimitFault>
+        ensures { ChangedAbove (if W.Watch.watched self.old.watch mark then out else There self.old.gauge.out) (P.Pool.limits self.old.below) (P.Pool.limits below) (gauged (W.Watch.watched self.old.watch) self.old.gauge) (layer_limits P.Pool.limits W.Watch.watched self.new) result }
     {
+        if self.watch.watches(mark) {
+            self.gauge.put(out, self.below.count())?;
+        }
+        self.below = below;
+        Ok(())
+    }
+}
+
+impl<A: Amount, P: Pool<A>, W: Watch> Pool<A> for Layer<A, P, W> {
+    ghost limits = { layer_limits P.Pool.limits W.Watch.watched };
+
+    ghost grounded = { λ p. grounded_push (P.Pool.limits p.below) _ (P.Pool.grounded p.below) };
+
+    fn tall(&self, mark: u8, amount: A) -> Option<u8> {
+        let fails = !self.gauge.holds(amount);
+        self.lowest(self.below.tall(mark, amount), mark, fails)
+    }
+
+    fn short(&self, mark: u8, amount: A) -> Option<u8> {
+        let fails = self.gauge.grown(amount).is_none();
+        self.lowest(self.below.short(mark, amount), mark, fails)
+    }
+
+    // The pile below is tried on a copy, so that nothing changes where it or this limit refuses.
+    fn take(&mut self, mark: u8, amount: A) -> Result<(), LimitFault> {
+        let more = self.gauge.grown(amount);
+        let mut below = self.below;
+        below.take(mark, amount)?;
+        self.change(mark, below, more)
+    }
+
+    fn give(&mut self, mark: u8, amount: A) -> Result<(), LimitFault> {
+        let rest = self.gauge.shrunk(amount);
+        let mut below = self.below;
+        below.give(mark, amount)?;
+        self.change(mark, below, rest)
+    }
+
+    fn whole(&self) -> A {
         self.below.whole()
     }
 
-    pub(crate) fn count(&self) -> u8
-        ensures { (w : ℕ → Bool) → result ≡ told (length (layered (P.Pool.limits self.now.below) w self.now.gauge)) }
-    {
+    fn count(&self) -> u8 {
         self.below.count().saturating_add(1)
     }
 
-    pub(crate) fn idle(&self) -> bool
-        ensures { (w : ℕ → Bool) → Decides result (Idle A.Amount.ops (layered (P.Pool.limits self.now.below) w self.now.gauge)) }
-    {
+    fn idle(&self) -> bool {
         self.gauge.idle() & self.below.idle()
     }
 }

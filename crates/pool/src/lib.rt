@@ -9,10 +9,14 @@ mod pool;
 mod reserve;
 mod store;
 mod theorems;
+mod watch;
 
-pub use cap::Cap;
+pub use cap::{Cap, Marks};
+pub use gauge::room;
+pub use layer::Layer;
 pub use limit_fault::LimitFault;
 pub use pool::Pool;
-pub use reserve::{Reserve, TallReserve};
+pub use reserve::{AllBut, Reserve, TallReserve};
 pub use store::Store;
 pub use theorems::{limits_stay, places_are_told};
+pub use watch::Watch;

@@ -1,4 +1,4 @@
-ghost use Rattle.std.specs.Prelude.{◌≡◌, List, length, Decides};
+ghost use Rattle.std.specs.Prelude.{◌≡◌, ◌↔◌, List, length, IsTrue};
 ghost use Rattle.pool.specs.Limits.{Limit, Grounded, told, told_place, tall_place, short_place, taking, giving, whole_of, Idle};
 ghost use Rattle.pool.specs.Changes.{Changed};
 
@@ -37,7 +37,7 @@ pub trait Pool<A: Amount>: Copy {
 
     // Whether nothing is out at any limit.
     fn idle(&self) -> bool
-        ensures { Decides result (Idle A.Amount.ops (limits self.now)) };
+        ensures { IsTrue result ↔ Idle A.Amount.ops (limits self.now) };
 
     // place 0 is there, and watches every number
     ghost grounded: { (p : Self) → Grounded (limits p) };

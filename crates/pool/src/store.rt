@@ -8,7 +8,7 @@ use crate::pool::Pool;
 use amount::Amount;
 
 // The bottom of a pile: one limit that watches every number.
-#[derive(Clone, Copy)]
+#[derive(Debug, Clone, Copy, PartialEq, Eq)]
 pub struct Store<A> {
     gauge: Gauge<A>,
 }
@@ -30,38 +30,21 @@ impl<A: Amount> Pool<A> for Store<A> {
     ghost grounded = { λ _ _. refl };
 
     fn tall(&self, _mark: u8, amount: A) -> Option<u8> {
-        if self.gauge.holds(amount) {
-            None
-        } else {
-            Some(0)
-        }
+        (!self.gauge.holds(amount)).then_some(0)
     }
 
     fn short(&self, _mark: u8, amount: A) -> Option<u8> {
-        match self.gauge.grown(amount) {
-            Some(_) => None,
-            None => Some(0),
-        }
+        self.gauge.grown(amount).is_none().then_some(0)
     }
 
     fn take(&mut self, _mark: u8, amount: A) -> Result<(), LimitFault> {
-        match self.gauge.grown(amount) {
-            Some(more) => {
-                self.gauge.out = more;
-                Ok(())
-            }
-            None => Err(LimitFault { place: 0 }),
-        }
+        let more = self.gauge.grown(amount);
+        self.gauge.put(more, 0)
     }
 
     fn give(&mut self, _mark: u8, amount: A) -> Result<(), LimitFault> {
-        match self.gauge.shrunk(amount) {
-            Some(rest) => {
-                self.gauge.out = rest;
-                Ok(())
-            }
-            None => Err(LimitFault { place: 0 }),
-        }
+        let rest = self.gauge.shrunk(amount);
+        self.gauge.put(rest, 0)
     }
 
     fn whole(&self) -> A {
