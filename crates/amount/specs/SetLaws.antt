@@ -1,10 +1,10 @@
 -- Sets of modules keep the laws.
-use Rattle.std.specs.Prelude.{◌≡◌, ℕ, ◌+◌, ◌-◌, ◌^◌, ◌≤◌, Some, None, ◌≢◌, bit_and, bit_or, refl}
+use Rattle.std.specs.Prelude.{◌≡◌, ℕ, ◌+◌, ◌-◌, ◌^◌, ◌≤◌, ◌==◌, Some, None, Option, is_some, IfSome, ◌≢◌, bit_and, bit_or, refl}
 use Rattle.std.proofs.Common.{sym, ap, ◌∙◌, arith}
 use Rattle.std.proofs.Math.Bridge.{le_prop}
 use Rattle.std.proofs.Math.Decide.{ℕ_discrete}
 use Rattle.std.proofs.lemmas.Nat.{and_comm, or_comm, or_disjoint}
-use Rattle.std.proofs.lemmas.Bool.{eqb-true, eq-eqb}
+use Rattle.std.proofs.lemmas.Bool.{eqb-true, eqb-false, eq-eqb}
 use Rattle.amount.specs.Arithmetic.{Laws, bind}
 use Rattle.amount.specs.Sets.{modules, union, without, modules_ops}
 use Rattle.amount.specs.declared.modules.Modules.{Modules}
@@ -27,7 +27,7 @@ modules_counted = record {
 pub modules_eq : (a b : Modules) → a.names ≡ b.names → a ≡ b
 modules_eq = number_inj modules_counted
 
-pub sum_made : (a b c : Modules) → bit_and a.names b.names ≡ 0 → c.names ≡ bit_or a.names b.names → modules_ops.plus a b ≡ Some c
+sum_made : (a b c : Modules) → bit_and a.names b.names ≡ 0 → c.names ≡ bit_or a.names b.names → modules_ops.plus a b ≡ Some c
 sum_made a b c p e = given_is _ (union a b) p ∙ ap Some (modules_eq (union a b) c (sym e))
 
 sum_over : (a b : Modules) → (bit_and a.names b.names ≢ 0) → modules_ops.plus a b ≡ None
@@ -38,8 +38,20 @@ sum_is a b c e =
     let h = given_held (ℕ_discrete (bit_and a.names b.names) 0) (union a b) c e in
     (h.0, ap (λ (m : Modules). m.names) (sym h.1) ∙ or_disjoint a.names b.names h.0)
 
-pub minus_made : (a b c : Modules) → bit_and a.names b.names ≡ a.names → c.names ≡ b.names - a.names → modules_ops.minus b a ≡ Some c
+minus_made : (a b c : Modules) → bit_and a.names b.names ≡ a.names → c.names ≡ b.names - a.names → modules_ops.minus b a ≡ Some c
 minus_made a b c p e = given_is _ (without b a) p ∙ ap Some (modules_eq (without b a) c (sym e))
+
+minus_over : (a b : Modules) → (bit_and a.names b.names ≢ a.names) → modules_ops.minus b a ≡ None
+minus_over a b p = given_no _ (λ _. without b a) p
+
+-- what code shows of a sum and a difference: whether it is there, and its names
+pub sum_shown : (a b : Modules) (r : Option Modules) {P : Modules → Type 0} → is_some r ≡ (bit_and a.names b.names == 0) → IfSome r P → ((c : Modules) → P c → c.names ≡ bit_or a.names b.names) → r ≡ modules_ops.plus a b
+sum_shown a b None e s f = sym (sum_over a b (eqb-false _ 0 (sym e)))
+sum_shown a b (Some c) e s f = sym (sum_made a b c (eqb-true _ 0 (sym e)) (f c s))
+
+pub minus_shown : (a b : Modules) (r : Option Modules) {P : Modules → Type 0} → is_some r ≡ (bit_and a.names b.names == a.names) → IfSome r P → ((c : Modules) → P c → c.names ≡ b.names - a.names) → r ≡ modules_ops.minus b a
+minus_shown a b None e s f = sym (minus_over a b (eqb-false _ a.names (sym e)))
+minus_shown a b (Some c) e s f = sym (minus_made a b c (eqb-true _ a.names (sym e)) (f c s))
 
 commutes : (a b : Modules) → modules_ops.plus a b ≡ modules_ops.plus b a
 commutes a b = elim (ℕ_discrete (bit_and a.names b.names) 0) [

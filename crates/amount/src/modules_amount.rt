@@ -14,23 +14,11 @@ impl Amount for Modules {
     }
 
     fn plus(self, other: Modules) -> Option<Modules> {
-        if self.names & other.names == 0 {
-            Some(Modules {
-                names: self.names | other.names,
-            })
-        } else {
-            None
-        }
+        (self.names & other.names == 0).then(|| Modules::from(self.names | other.names))
     }
 
     fn minus(self, part: Modules) -> Option<Modules> {
-        if part.names & self.names == part.names {
-            Some(Modules {
-                names: self.names - part.names,
-            })
-        } else {
-            None
-        }
+        (part.names & self.names == part.names).then(|| Modules::from(self.names - part.names))
     }
 
     fn same(self, other: Modules) -> bool {

@@ -1,4 +1,5 @@
-ghost use Rattle.amount.specs.Phases.{phases_ops};
+ghost use Rattle.std.specs.Prelude.{◌≡◌, [], ◌∷◌};
+ghost use Rattle.amount.specs.Phases.{OnEachPhase, phases_ops};
 ghost use Rattle.amount.specs.PhaseLaws.{phases_laws};
 
 use crate::amount::Amount;
@@ -10,6 +11,29 @@ pub struct Phases {
     pub l1: Amps,
     pub l2: Amps,
     pub l3: Amps,
+}
+
+impl From<[u16; 3]> for Phases {
+    ghost from_gives = { λ each a. each ≡ a.l1.value ∷ a.l2.value ∷ a.l3.value ∷ [] };
+
+    fn from([l1, l2, l3]: [u16; 3]) -> Phases {
+        Phases {
+            l1: Amps::from(l1),
+            l2: Amps::from(l2),
+            l3: Amps::from(l3),
+        }
+    }
+}
+
+// The step on each phase; absent where it is on one of them.
+fn each_phase<F: Fn(Amps, Amps) -> Option<Amps>>(a: Phases, b: Phases, step: F) -> Option<Phases>
+    requires { F.IsAlwaysCallable step }
+    ensures { OnEachPhase (F.post step) a b result }
+{
+    match (step(a.l1, b.l1), step(a.l2, b.l2), step(a.l3, b.l3)) {
+        (Some(l1), Some(l2), Some(l3)) => Some(Phases { l1, l2, l3 }),
+        _ => None,
+    }
 }
 
 impl Amount for Phases {
@@ -26,17 +50,11 @@ impl Amount for Phases {
     }
 
     fn plus(self, other: Phases) -> Option<Phases> {
-        let l1 = self.l1.plus(other.l1)?;
-        let l2 = self.l2.plus(other.l2)?;
-        let l3 = self.l3.plus(other.l3)?;
-        Some(Phases { l1, l2, l3 })
+        each_phase(self, other, Amps::plus)
     }
 
     fn minus(self, part: Phases) -> Option<Phases> {
-        let l1 = self.l1.minus(part.l1)?;
-        let l2 = self.l2.minus(part.l2)?;
-        let l3 = self.l3.minus(part.l3)?;
-        Some(Phases { l1, l2, l3 })
+        each_phase(self, part, Amps::minus)
     }
 
     fn same(self, other: Phases) -> bool {

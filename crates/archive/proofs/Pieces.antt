@@ -1,8 +1,16 @@
 -- A slice whose parts are lent one after the other, from its start to its end; bytes as the numbers that code makes of them.
-use Rattle.std.proofs.Common.{◌≡◌, ℕ, ◌+◌, ◌-◌, ◌*◌, ◌≤◌, List, [], ◌∷◌, ◌++◌, length, get_or, take, drop, sym, refl, ap, ◌∙◌, append_assoc, append-nil, arith, length-append, length-drop, length-take, take_all, drop-drop, take_at, drop_at}
+use Rattle.std.proofs.Common.{◌≡◌, ℕ, ◌+◌, ◌-◌, ◌*◌, ◌≤◌, List, [], ◌∷◌, ◌++◌, length, get_or, take, drop, sym, refl, ap, ◌∙◌, append_assoc, append-nil, arith, length-append, length-drop, length-take, drop-drop, take_at}
 use borrow.Rule.Slice.PartMut.{put_mid, post_of, same_len_mid}
 use Rattle.std.proofs.lemmas.List.{drop_all}
 use Rattle.std.proofs.lemmas.Slice.{take-put_mid}
+use Rattle.std.proofs.lemmas.Option.{none-some, same_Some}
+use Rattle.std.specs.Array.{IsWholeChunk}
+use Rattle.std.specs.Prelude.{◌<◌, ◌≢◌, Some, Result, Ok, Err}
+use Rattle.std.specs.Result.{MatchResult, result_ok}
+use Rattle.amount.specs.Counts.{fitted}
+use Rattle.amount.specs.CountLaws.{Counted, fitted_number}
+use Rattle.archive.specs.Exactly.{exactly_yes}
+use Rattle.archive.specs.Kinds.{count_decode}
 use Rattle.archive.specs.Numbers.{number_of}
 
 -- the first part: what is in front after the loan is what was written
@@ -24,14 +32,6 @@ length_first n xs ys e h = length-append ys (drop n (drop 0 xs)) ∙ (let p : le
 length_put : {X : Type 0} (a k : ℕ) (xs ys : List X) → length ys ≡ k → a + k ≤ length xs → length (put_mid a k xs ys) ≡ length xs
 length_put a k xs ys e h = same_len_mid a k xs ys (e ∙ sym (let p = length-take k (drop a xs) in let q = length-drop a xs in omega arith))
 
--- two parts that make the whole, of n in all
-pub two_written : {X : Type 0} (l n : ℕ) (xs ys zs : List X) → length xs ≡ n → l ≤ n → length ys ≡ l → put_mid l (n - l) (ys ++ post_of 0 (l - 0) xs) zs ≡ ys ++ zs
-two_written l n xs ys zs h b e =
-    let k : l - 0 ≡ l = omega arith in
-    let m = length_first l xs ys e (omega arith) in
-    let w : length (ys ++ post_of 0 (l - 0) xs) ≡ length xs = ap (λ n. length (ys ++ post_of 0 n xs)) k ∙ m in
-    last l (n - l) (ys ++ post_of 0 (l - 0) xs) zs ys (first l (l - 0) xs ys e) (omega arith)
-
 -- three parts of two bytes
 pub three_written : {X : Type 0} (xs x y z : List X) → length xs ≡ 6 → length x ≡ 2 → length y ≡ 2 → put_mid 4 2 (put_mid 2 2 (x ++ post_of 0 2 xs) y) z ≡ x ++ (y ++ z)
 three_written xs x y z h e f =
@@ -39,6 +39,15 @@ three_written xs x y z h e f =
     let p = next 2 2 4 (x ++ post_of 0 2 xs) y x (first 2 2 xs x e) f refl (omega arith) in
     let w : length (put_mid 2 2 (x ++ post_of 0 2 xs) y) ≡ 6 = length_put 2 2 (x ++ post_of 0 2 xs) y f (omega arith) ∙ m ∙ h in
     last 4 2 (put_mid 2 2 (x ++ post_of 0 2 xs) y) z (x ++ y) p (omega arith) ∙ append_assoc x y z
+
+-- the bytes that an array was made of
+pub made_of : {E : Type 0} (bs ys : List ℕ) (n : ℕ) (r : Result (List ℕ) E) → MatchResult r (λ y. IsWholeChunk bs y n) (λ _. length bs ≢ n) → Some ys ≡ result_ok r → (length ys ≡ n) × (ys ≡ bs)
+made_of bs ys n (Ok y) m e = let k = same_Some ys y e ∙ m.same in (ap length k ∙ m.long, k)
+made_of bs ys n (Err x) m e = absurd (none-some ys (sym e))
+
+-- a count of k bytes, read from just as many
+pub count_read : {T : Type 0} {limit : ℕ} {make : (n : ℕ) → n < limit → T} {number : T → ℕ} → Counted limit make number → (k : ℕ) (bs ys : List ℕ) (a : T) → k ≤ 16 → (length ys ≡ k) × (ys ≡ bs) → number a ≡ number_of ys → Some a ≡ count_decode k limit make bs
+count_read {limit = limit} {make = make} counted k bs ys a h m e = sym (exactly_yes k bs _ h (ap length (sym m.1) ∙ m.0) ∙ ap (fitted limit make) (ap number_of (sym m.1) ∙ sym e) ∙ fitted_number counted a)
 
 -- the number of two bytes, and of eight
 pub number_two : (s : List ℕ) → length s ≡ 2 → number_of s ≡ get_or s 0 0 * 256 + get_or s 1 0
@@ -59,9 +68,3 @@ number_eight (a ∷ b ∷ c ∷ d ∷ e ∷ f ∷ []) l = absurd (omega arith)
 number_eight (a ∷ b ∷ c ∷ d ∷ e ∷ f ∷ g ∷ []) l = absurd (omega arith)
 number_eight (a ∷ b ∷ c ∷ d ∷ e ∷ f ∷ g ∷ h ∷ []) l = omega arith
 number_eight (a ∷ b ∷ c ∷ d ∷ e ∷ f ∷ g ∷ h ∷ z ∷ s) l = absurd (omega arith)
-
--- what is lent of the second part is all that the first left
-pub second_length : {X : Type 0} (l n : ℕ) (xs ys : List X) → length xs ≡ n → l ≤ n → length ys ≡ l → length (take (n - l) (drop l (ys ++ post_of 0 (l - 0) xs))) ≡ n - l
-second_length l n xs ys h b e =
-    let q : length (drop (l - 0) (drop 0 xs)) ≡ n - l = length-drop (l - 0) (drop 0 xs) ∙ omega arith in
-    ap (λ z. length (take (n - l) z)) (drop_at ys (post_of 0 (l - 0) xs) l e) ∙ ap length (take_all (n - l) (drop (l - 0) (drop 0 xs)) (omega arith)) ∙ q

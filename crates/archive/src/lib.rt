@@ -3,10 +3,10 @@
 
 mod amps;
 mod archived;
+mod fill;
 mod modules;
 mod pair;
 mod phases;
 mod width;
 
 pub use archived::{Archived, WrongLength};
-pub use width::{ByteCount, Fixed, Joined};

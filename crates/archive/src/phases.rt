@@ -1,23 +1,17 @@
-ghost use Rattle.std.specs.Prelude.{refl};
 ghost use Rattle.archive.specs.Kinds.{phases_bytes, phases_decode};
 ghost use Rattle.archive.specs.Codecs.{phases_codec};
 
 use crate::archived::{Archived, WrongLength};
-use crate::width::Fixed;
 use amount::{Amps, Phases};
 
 impl Archived for Phases {
-    type Width = Fixed<6>;
+    const W: usize = 6;
 
-    const W: Fixed<6> = Fixed;
-
-    ghost width = { 6 };
+    ghost W = { 6 };
 
     ghost bytes = { phases_bytes };
 
     ghost decode = { phases_decode };
-
-    ghost wide = { λ _. refl };
 
     ghost codec = { phases_codec };
 

@@ -1,6 +1,6 @@
-use Rattle.std.proofs.Common.{sym, refl}
-use Rattle.amount.specs.SetLaws.{minus_made}
+use Rattle.std.proofs.Common.{rules}
+use Rattle.amount.specs.SetLaws.{minus_shown}
 use Rattle.amount.proofs.modules_amount.ModulesAmount.minus.Goals as goal
 
-pub returns-then-part-self : goal.returns-then-part-self
-returns-then-part-self c = sym (minus_made c.args.part c.args.self _ c.if-part-self.true refl)
+pub returns : goal.returns
+returns c = minus_shown c.args.part c.args.self _ c.then.ensures.variant c.then.ensures.some (λ x p. search rules)

@@ -1,11 +1,9 @@
-use Rattle.std.proofs.Common.{◌≡◌, length, sym, ap, ◌∙◌, arith, lit≤}
-use Rattle.amount.specs.Counts.{fitted, amps}
-use Rattle.amount.specs.CountLaws.{fitted_number, amps_counted}
-use Rattle.archive.specs.Exactly.{exactly_yes}
-use Rattle.archive.proofs.Pieces.{number_two}
+use Rattle.std.proofs.Common.{◌∙◌, sym, lit≤}
+use Rattle.amount.specs.CountLaws.{amps_counted}
+use Rattle.archive.proofs.Pieces.{made_of, count_read, number_two}
 use Rattle.archive.proofs.amps.AmpsArchived.read.Goals as goal
 
 pub returns : goal.returns
 returns c =
-    let two : length c.args.from.now ≡ 2 = omega arith in
-    sym (exactly_yes 2 c.args.from.now _ (lit≤ tt) two ∙ ap (fitted 65536 amps) (number_two c.args.from.now two ∙ sym c.from_be_bytes-value.ensures) ∙ fitted_number amps_counted _)
+    let m = made_of c.args.from.now c.in_ok-bytes.bytes 2 c.try_from.result c.try_from.ensures.1 c.in_ok-bytes.ensures.value in
+    count_read amps_counted 2 c.args.from.now c.in_ok-bytes.bytes c.from.result (lit≤ tt) m (c.from.ensures ∙ c.from_be_bytes.ensures ∙ sym (number_two _ m.0))
