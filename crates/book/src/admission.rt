@@ -5,28 +5,28 @@ ghost use Rattle.book.specs.Tables.{no_row, is_shut, rows_in, known, sitting, sp
 use crate::slip::Slip;
 use crate::table::{Table, row_at, some_moving};
 use amount::Amount;
-use archive::{Archived, ByteCount};
+use archive::Archived;
 use orders::Session;
 use rows::{Refusal, RowCall, RowState, turn};
 
 impl Table {
     // A kind wider than 16 bytes shuts every book.
     pub(crate) fn is_shut<A: Archived>(&self) -> bool
-        ensures { result ≡ is_shut A.Archived.width self.now }
+        ensures { result ≡ is_shut A.Archived.W self.now }
     {
-        A::W.get() > 16 || self.shut
+        A::W > 16 || self.shut
     }
 
     // Whether a slip of this book is out.
     pub(crate) fn slip_out<A: Archived>(&self) -> bool
-        ensures { result ≡ is_some (slip_bay (rows_in A.Archived.width A.Archived.decode A.Amount.ops.zero self.now)) }
+        ensures { result ≡ is_some (slip_bay (rows_in A.Archived.W A.Archived.decode A.Amount.ops.zero self.now)) }
     {
         some_moving(&self.rows)
     }
 
     // Refusals 1 and 2.
     pub(crate) fn known<A: Archived>(&self, bay: u8) -> Result<(), Refusal>
-        ensures { result ≡ known (is_shut A.Archived.width self.now) bay }
+        ensures { result ≡ known (is_shut A.Archived.W self.now) bay }
     {
         if self.is_shut::<A>() {
             return Err(Refusal::Shut);
@@ -43,7 +43,7 @@ impl Table {
         bay: u8,
         call: RowCall,
     ) -> Result<(RowState, Session<A>), Refusal>
-        ensures { result ≡ sitting A.Archived.width A.Archived.decode A.Amount.ops.zero self.now bay call }
+        ensures { result ≡ sitting A.Archived.W A.Archived.decode A.Amount.ops.zero self.now bay call }
     {
         self.known::<A>(bay)?;
         if self.slip_out::<A>() {
@@ -63,7 +63,7 @@ impl Table {
         slip: &Slip,
         call: RowCall,
     ) -> Result<RowState, Refusal>
-        ensures answer { result ≡ spending A.Archived.width self.now slip.now call }
+        ensures answer { result ≡ spending A.Archived.W self.now slip.now call }
         ensures past { 64 ≤ slip.now.bay → slice_index_or self.now.rows slip.now.bay no_row ≡ no_row }
     {
         let found = row_at(&self.rows, slip.bay);

@@ -56,7 +56,7 @@ pub(crate) fn some_moving(rows: &[Row; 64]) -> bool
 
 // Seats every session at its bay: each row is decoded once.
 pub(crate) fn seat_all<A: Archived>(rows: &[Row; 64], trial: &mut Trial<A>)
-    ensures { seats trial.new ≡ seen (map (row_of A.Archived.width A.Archived.decode A.Amount.ops.zero) rows.now) }
+    ensures { seats trial.new ≡ seen (map (row_of A.Archived.W A.Archived.decode A.Amount.ops.zero) rows.now) }
 {
     for bay in 0..64u8 {
         trial.seat(bay, rows[bay as usize].session());

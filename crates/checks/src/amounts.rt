@@ -1,5 +1,5 @@
 use amount::{Amount, Amps, Modules, Pair, Phases};
-use archive::{Archived, ByteCount};
+use archive::Archived;
 
 fn phases(l1: u16, l2: u16, l3: u16) -> Phases {
     Phases {
@@ -77,16 +77,16 @@ fn a_pair_needs_both_sides(rt: HostRuntime) {
 
 #[test]
 fn widths_add_up_to_16(rt: HostRuntime) {
-    assert_eq!(rt; Amps::W.get(), 2);
-    assert_eq!(rt; Phases::W.get(), 6);
-    assert_eq!(rt; Modules::W.get(), 8);
-    assert_eq!(rt; Pair::<Phases, Phases>::W.get(), 12);
-    assert_eq!(rt; Pair::<Phases, Modules>::W.get(), 14);
-    assert_eq!(rt; Pair::<Modules, Modules>::W.get(), 16);
-    assert_eq!(rt; Pair::<Pair<Phases, Modules>, Amps>::W.get(), 16);
-    assert_eq!(rt; Pair::<Pair<Modules, Modules>, Amps>::W.get(), 17);
+    assert_eq!(rt; Amps::W, 2);
+    assert_eq!(rt; Phases::W, 6);
+    assert_eq!(rt; Modules::W, 8);
+    assert_eq!(rt; Pair::<Phases, Phases>::W, 12);
+    assert_eq!(rt; Pair::<Phases, Modules>::W, 14);
+    assert_eq!(rt; Pair::<Modules, Modules>::W, 16);
+    assert_eq!(rt; Pair::<Pair<Phases, Modules>, Amps>::W, 16);
+    assert_eq!(rt; Pair::<Pair<Modules, Modules>, Amps>::W, 17);
     assert_eq!(rt;
-        Pair::<Amps, Pair<Modules, Pair<Modules, Amps>>>::W.get(),
+        Pair::<Amps, Pair<Modules, Pair<Modules, Amps>>>::W,
         17
     );
 }

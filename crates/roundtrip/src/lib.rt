@@ -7,5 +7,5 @@ use archive::Archived;
 
 // Nothing to run: the contract is the theorem, of the kind A.
 pub fn round_trip<A: Archived>()
-    ensures { RoundTrip A.Archived.width A.Archived.bytes A.Archived.decode }
+    ensures { RoundTrip A.Archived.W A.Archived.bytes A.Archived.decode }
 {}

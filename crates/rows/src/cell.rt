@@ -2,7 +2,7 @@ ghost use Rattle.std.specs.Prelude.{◌≡◌, replicate};
 ghost use Rattle.rows.specs.Cells.{amount_in, with_amount};
 
 use amount::Amount;
-use archive::{Archived, ByteCount};
+use archive::Archived;
 
 // 16 bytes of a row, of which the first W hold an amount.
 #[derive(Clone, Copy)]
@@ -19,9 +19,9 @@ impl Cell {
 
     // The amount that the cell holds; zero where the kind is wider than the cell.
     pub fn read<A: Archived>(&self) -> A
-        ensures { result ≡ amount_in A.Archived.width A.Archived.decode A.Amount.ops.zero self.now }
+        ensures { result ≡ amount_in A.Archived.W A.Archived.decode A.Amount.ops.zero self.now }
     {
-        let w = A::W.get();
+        let w = A::W;
         if w > 16 {
             return A::zero();
         }
@@ -33,9 +33,9 @@ impl Cell {
 
     // Writes the amount into the first W bytes; the others stay, and all do where the kind is wider than the cell.
     pub fn write<A: Archived>(&mut self, amount: A)
-        ensures { self.new ≡ with_amount A.Archived.width (A.Archived.bytes amount) self.old }
+        ensures { self.new ≡ with_amount A.Archived.W (A.Archived.bytes amount) self.old }
     {
-        let w = A::W.get();
+        let w = A::W;
         if w <= 16 {
             let _ = amount.write(&mut self.bytes[0..w]);
         }

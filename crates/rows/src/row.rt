@@ -41,7 +41,7 @@ impl Row {
 
     // The open session, if there is one, its bytes decoded.
     pub fn session<A: Archived>(&self) -> Option<Session<A>>
-        ensures { result ≡ seen_row (row_of A.Archived.width A.Archived.decode A.Amount.ops.zero self.now) }
+        ensures { result ≡ seen_row (row_of A.Archived.W A.Archived.decode A.Amount.ops.zero self.now) }
     {
         match self.state {
             RowState::Empty => None,

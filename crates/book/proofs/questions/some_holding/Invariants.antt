@@ -8,5 +8,5 @@ use Rattle.book.proofs.questions.some_holding.Given as goal
 abbrev pub invariant-loop-i : goal.invariant-loop-i
 invariant-loop-i g l =
     let o = g.A.Amount.ops in
-    let bays = seen (map (row_of g.A.Archived.width g.A.Archived.decode o.zero) l.rows) in
+    let bays = seen (map (row_of g.A.Archived.W g.A.Archived.decode o.zero) l.rows) in
     lowest_place (holds_any o) bays ≡ from l.i (lowest_place (holds_any o) (drop l.i bays))

@@ -9,7 +9,7 @@ use Rattle.book.proofs.table.seat_all.Goals as goal
 
 pub loop-bay-preserved : goal.loop-bay-preserved
 loop-bay-preserved g c =
-    let f = row_of g.A.Archived.width g.A.Archived.decode g.A.Amount.ops.zero in
+    let f = row_of g.A.Archived.W g.A.Archived.decode g.A.Amount.ops.zero in
     let rows = c.args.rows.now in
     let i = c.loop-bay.bay in
     let full = seats_full c.loop-bay.trial in
@@ -21,7 +21,7 @@ loop-bay-preserved g c =
 
 pub returns : goal.returns
 returns g c =
-    let f = row_of g.A.Archived.width g.A.Archived.decode g.A.Amount.ops.zero in
+    let f = row_of g.A.Archived.W g.A.Archived.decode g.A.Amount.ops.zero in
     let rows = c.args.rows.now in
     let full = seats_full c.loop-bay.trial in
     let long = seen_length f rows in

@@ -9,7 +9,7 @@ use Rattle.site_day.proofs.portions.ask_and_withdraw.Goals as goal
 pub unreachable-requires : goal.unreachable-requires
 unreachable-requires g c =
     let o = g.A.Amount.ops in
-    let st = state_of o g.A.Archived.width g.A.Archived.decode g.P.Pool.limits c.args.book.now in
+    let st = state_of o g.A.Archived.W g.A.Archived.decode g.P.Pool.limits c.args.book.now in
     let n = c.in_ok-count.field-0.count in
     let p = slip_of c.in_ok-count.field-0.slip in
     let t = c.in_ok-count.ensures in
@@ -19,7 +19,7 @@ unreachable-requires g c =
 pub returns : goal.returns
 returns g c =
     let o = g.A.Amount.ops in
-    let st = state_of o g.A.Archived.width g.A.Archived.decode g.P.Pool.limits c.args.book.now in
+    let st = state_of o g.A.Archived.W g.A.Archived.decode g.P.Pool.limits c.args.book.now in
     let n = c.in_ok-count.field-0.count in
     let p = slip_of c.in_ok-count.field-0.slip in
     let t = c.in_ok-count.ensures in

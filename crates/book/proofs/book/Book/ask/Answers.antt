@@ -22,7 +22,7 @@ use Rattle.book.proofs.book.Book.ask.Goals as goal
 pub returns-in_err-next : goal.returns-in_err-next
 returns-in_err-next g c =
     let o = g.A.Amount.ops in
-    let w = g.A.Archived.width in
+    let w = g.A.Archived.W in
     let decode = g.A.Archived.decode in
     let limits = g.P.Pool.limits in
     let t = c.args.self.now.table in
@@ -39,7 +39,7 @@ returns-in_err-next g c =
 pub returns-in_default : goal.returns-in_default
 returns-in_default g c =
     let o = g.A.Amount.ops in
-    let w = g.A.Archived.width in
+    let w = g.A.Archived.W in
     let decode = g.A.Archived.decode in
     let limits = g.P.Pool.limits in
     let t = c.args.self.now.table in
@@ -57,7 +57,7 @@ returns-in_default g c =
 pub returns-in_err-take : goal.returns-in_err-take
 returns-in_err-take g c =
     let o = g.A.Amount.ops in
-    let w = g.A.Archived.width in
+    let w = g.A.Archived.W in
     let decode = g.A.Archived.decode in
     let limits = g.P.Pool.limits in
     let t = c.args.self.now.table in
@@ -85,7 +85,7 @@ returns-in_err-take g c =
 pub returns-in_default-completion_order : goal.returns-in_default-completion_order
 returns-in_default-completion_order g c =
     let o = g.A.Amount.ops in
-    let w = g.A.Archived.width in
+    let w = g.A.Archived.W in
     let decode = g.A.Archived.decode in
     let limits = g.P.Pool.limits in
     let t = c.args.self.now.table in
@@ -116,7 +116,7 @@ returns-in_default-completion_order g c =
 pub returns-in_err-count : goal.returns-in_err-count
 returns-in_err-count g c =
     let o = g.A.Amount.ops in
-    let w = g.A.Archived.width in
+    let w = g.A.Archived.W in
     let decode = g.A.Archived.decode in
     let limits = g.P.Pool.limits in
     let t = c.args.self.now.table in
@@ -149,7 +149,7 @@ returns-in_err-count g c =
 pub returns : goal.returns
 returns g c =
     let o = g.A.Amount.ops in
-    let w = g.A.Archived.width in
+    let w = g.A.Archived.W in
     let decode = g.A.Archived.decode in
     let limits = g.P.Pool.limits in
     let t = c.args.self.now.table in

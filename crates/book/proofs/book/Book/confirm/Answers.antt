@@ -12,7 +12,7 @@ use Rattle.book.proofs.book.Book.confirm.Goals as goal
 pub returns-in-Err : goal.returns-in-Err
 returns-in-Err g c =
     let o = g.A.Amount.ops in
-    let w = g.A.Archived.width in
+    let w = g.A.Archived.W in
     let decode = g.A.Archived.decode in
     let limits = g.P.Pool.limits in
     let t = c.args.self.now.table in
@@ -27,7 +27,7 @@ returns-in-Err g c =
 pub returns-in-Ok : goal.returns-in-Ok
 returns-in-Ok g c =
     let o = g.A.Amount.ops in
-    let w = g.A.Archived.width in
+    let w = g.A.Archived.W in
     let decode = g.A.Archived.decode in
     let limits = g.P.Pool.limits in
     let t = c.args.self.now.table in

@@ -17,7 +17,7 @@ use Rattle.book.proofs.book.Book.end.Goals as goal
 pub returns-in_err-next : goal.returns-in_err-next
 returns-in_err-next g c =
     let o = g.A.Amount.ops in
-    let w = g.A.Archived.width in
+    let w = g.A.Archived.W in
     let decode = g.A.Archived.decode in
     let limits = g.P.Pool.limits in
     let t = c.args.self.now.table in
@@ -31,7 +31,7 @@ returns-in_err-next g c =
 pub returns-in-Err : goal.returns-in-Err
 returns-in-Err g c =
     let o = g.A.Amount.ops in
-    let w = g.A.Archived.width in
+    let w = g.A.Archived.W in
     let decode = g.A.Archived.decode in
     let limits = g.P.Pool.limits in
     let t = c.args.self.now.table in
@@ -50,7 +50,7 @@ returns-in-Err g c =
 pub returns-in-Ok : goal.returns-in-Ok
 returns-in-Ok g c =
     let o = g.A.Amount.ops in
-    let w = g.A.Archived.width in
+    let w = g.A.Archived.W in
     let decode = g.A.Archived.decode in
     let limits = g.P.Pool.limits in
     let t = c.args.self.now.table in

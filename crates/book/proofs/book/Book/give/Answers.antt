@@ -20,7 +20,7 @@ use Rattle.book.proofs.book.Book.give.Goals as goal
 pub returns-in_err-next : goal.returns-in_err-next
 returns-in_err-next g c =
     let o = g.A.Amount.ops in
-    let w = g.A.Archived.width in
+    let w = g.A.Archived.W in
     let decode = g.A.Archived.decode in
     let limits = g.P.Pool.limits in
     let t = c.args.self.now.table in
@@ -34,7 +34,7 @@ returns-in_err-next g c =
 pub returns-in_default : goal.returns-in_default
 returns-in_default g c =
     let o = g.A.Amount.ops in
-    let w = g.A.Archived.width in
+    let w = g.A.Archived.W in
     let decode = g.A.Archived.decode in
     let limits = g.P.Pool.limits in
     let t = c.args.self.now.table in
@@ -53,7 +53,7 @@ returns-in_default g c =
 pub returns-in-Err : goal.returns-in-Err
 returns-in-Err g c =
     let o = g.A.Amount.ops in
-    let w = g.A.Archived.width in
+    let w = g.A.Archived.W in
     let decode = g.A.Archived.decode in
     let limits = g.P.Pool.limits in
     let t = c.args.self.now.table in
@@ -77,7 +77,7 @@ returns-in-Err g c =
 pub returns-in-Ok : goal.returns-in-Ok
 returns-in-Ok g c =
     let o = g.A.Amount.ops in
-    let w = g.A.Archived.width in
+    let w = g.A.Archived.W in
     let decode = g.A.Archived.decode in
     let limits = g.P.Pool.limits in
     let t = c.args.self.now.table in

@@ -11,7 +11,7 @@ use Rattle.book.proofs.book.Book.new.Goals as goal
 pub returns : goal.returns
 returns g c =
     let o = g.A.Amount.ops in
-    let w = g.A.Archived.width in
+    let w = g.A.Archived.W in
     let f = row_of w g.A.Archived.decode o.zero in
     let ls = g.P.Pool.limits c.args.pile in
     let F : Bool → List (machine.Row g.row.A.Denot) → State g.row.A.Denot = λ b rows. record { shut = not (leb w 16) || not b; number = c.args.number; pile = ls; rows = rows } in

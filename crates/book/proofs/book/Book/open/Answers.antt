@@ -17,7 +17,7 @@ use Rattle.book.proofs.book.Book.open.Goals as goal
 pub returns-in_err-next : goal.returns-in_err-next
 returns-in_err-next g c =
     let o = g.A.Amount.ops in
-    let w = g.A.Archived.width in
+    let w = g.A.Archived.W in
     let decode = g.A.Archived.decode in
     let limits = g.P.Pool.limits in
     let t = c.args.self.now.table in
@@ -37,7 +37,7 @@ returns-in_err-next g c =
 pub returns-in-Some : goal.returns-in-Some
 returns-in-Some g c =
     let o = g.A.Amount.ops in
-    let w = g.A.Archived.width in
+    let w = g.A.Archived.W in
     let decode = g.A.Archived.decode in
     let limits = g.P.Pool.limits in
     let t = c.args.self.now.table in
@@ -57,7 +57,7 @@ returns-in-Some g c =
 pub returns : goal.returns
 returns g c =
     let o = g.A.Amount.ops in
-    let w = g.A.Archived.width in
+    let w = g.A.Archived.W in
     let decode = g.A.Archived.decode in
     let limits = g.P.Pool.limits in
     let t = c.args.self.now.table in
@@ -83,7 +83,7 @@ returns g c =
 pub returns-then-slip_out : goal.returns-then-slip_out
 returns-then-slip_out g c =
     let o = g.A.Amount.ops in
-    let w = g.A.Archived.width in
+    let w = g.A.Archived.W in
     let decode = g.A.Archived.decode in
     let limits = g.P.Pool.limits in
     let t = c.args.self.now.table in
@@ -96,7 +96,7 @@ returns-then-slip_out g c =
     record { answer = h; after = stays o w decode t ls (opens i m k) Slipped h }
 
 pub bounds-self-bay : goal.bounds-self-bay
-bounds-self-bay g c = leb-false 64 c.args.bay (known_ok (is_shut g.A.Archived.width c.args.self.now.table) c.args.bay c.in_ok-known.ensures).1
+bounds-self-bay g c = leb-false 64 c.args.bay (known_ok (is_shut g.A.Archived.W c.args.self.now.table) c.args.bay c.in_ok-known.ensures).1
 
 pub bounds-self-bay-2 : goal.bounds-self-bay-2
-bounds-self-bay-2 g c = leb-false 64 c.args.bay (known_ok (is_shut g.A.Archived.width c.args.self.now.table) c.args.bay c.in_ok-known.ensures).1
+bounds-self-bay-2 g c = leb-false 64 c.args.bay (known_ok (is_shut g.A.Archived.W c.args.self.now.table) c.args.bay c.in_ok-known.ensures).1

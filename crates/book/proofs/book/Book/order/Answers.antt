@@ -13,7 +13,7 @@ use Rattle.book.proofs.book.Book.order.Goals as goal
 pub returns-in_default : goal.returns-in_default
 returns-in_default g c =
     let o = g.A.Amount.ops in
-    let w = g.A.Archived.width in
+    let w = g.A.Archived.W in
     let decode = g.A.Archived.decode in
     let t = c.args.self.now.table in
     let ls = g.P.Pool.limits c.args.self.now.pile in
@@ -30,7 +30,7 @@ returns-in_default g c =
 pub returns-in_err-count : goal.returns-in_err-count
 returns-in_err-count g c =
     let o = g.A.Amount.ops in
-    let w = g.A.Archived.width in
+    let w = g.A.Archived.W in
     let decode = g.A.Archived.decode in
     let t = c.args.self.now.table in
     let ls = g.P.Pool.limits c.args.self.now.pile in
@@ -49,7 +49,7 @@ returns-in_err-count g c =
 pub returns : goal.returns
 returns g c =
     let o = g.A.Amount.ops in
-    let w = g.A.Archived.width in
+    let w = g.A.Archived.W in
     let decode = g.A.Archived.decode in
     let t = c.args.self.now.table in
     let ls = g.P.Pool.limits c.args.self.now.pile in

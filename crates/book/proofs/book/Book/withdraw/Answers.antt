@@ -20,7 +20,7 @@ use Rattle.book.proofs.book.Book.withdraw.Goals as goal
 pub returns-in-Err : goal.returns-in-Err
 returns-in-Err g c =
     let o = g.A.Amount.ops in
-    let w = g.A.Archived.width in
+    let w = g.A.Archived.W in
     let decode = g.A.Archived.decode in
     let limits = g.P.Pool.limits in
     let t = c.args.self.now.table in
@@ -35,7 +35,7 @@ returns-in-Err g c =
 pub returns-in-Err-give : goal.returns-in-Err-give
 returns-in-Err-give g c =
     let o = g.A.Amount.ops in
-    let w = g.A.Archived.width in
+    let w = g.A.Archived.W in
     let decode = g.A.Archived.decode in
     let limits = g.P.Pool.limits in
     let t = c.args.self.now.table in
@@ -56,7 +56,7 @@ returns-in-Err-give g c =
 pub returns-in-Ok-give : goal.returns-in-Ok-give
 returns-in-Ok-give g c =
     let o = g.A.Amount.ops in
-    let w = g.A.Archived.width in
+    let w = g.A.Archived.W in
     let decode = g.A.Archived.decode in
     let limits = g.P.Pool.limits in
     let t = c.args.self.now.table in
