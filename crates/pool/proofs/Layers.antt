@@ -6,7 +6,7 @@ use Rattle.std.proofs.lemmas.List.{map-append}
 use Rattle.amount.specs.Arithmetic.{Ops}
 use Rattle.pool.specs.declared.limit_fault.LimitFault.{LimitFault}
 use Rattle.pool.specs.Changes.{Changed, ChangedAbove, fault_at}
-use Rattle.pool.specs.Limits.{Limit, lowest_place, part, within, over, lacks, with_out, grown, shrunk, unless, whole_of, Grounded, Idle, bounded, room}
+use Rattle.pool.specs.Limits.{Limit, lowest_place, part, within, over, lacks, with_out, grown, shrunk, unless, Idle, bounded, room}
 use Rattle.pool.proofs.Places.{lowest_push}
 
 module _ {A : Type 0} (o : Ops A) where
@@ -30,10 +30,6 @@ module _ {A : Type 0} (o : Ops A) where
       ap (λ p. unless o p (map change (ls ++ (l ∷ [])))) (lowest_push test ls l)
       ∙ ap (λ r. unless o (option_or (lowest_place test ls) (cond (test l) (Some (length ls)) None)) r) (map-append change ls (l ∷ []))
       ∙ top_unless (lowest_place test ls) (test l) (length ls) (map change ls) (change l)
-
-  pub whole_push : (ls : List (Limit A)) (l : Limit A) → Grounded ls → whole_of o (ls ++ (l ∷ [])) ≡ whole_of o ls
-  whole_push [] l h = absurd h
-  whole_push (x ∷ ls) l h = refl
 
   pub idle_push : (ls : List (Limit A)) (l : Limit A) → Idle o ls → l.out ≡ o.zero → Idle o (ls ++ (l ∷ []))
   idle_push [] l h e = (e, tt)
@@ -76,24 +72,31 @@ module _ {A : Type 0} (o : Ops A) where
           | false ↦ (refl, refl)
         ]
 
-  -- the ways through a change of a layer: the pile below refuses, this limit alone does, or both change
-  below_refuses : (res : Result (List (Limit A)) ℕ) (ls exit : List (Limit A)) (l new : Limit A) (b : Bool) (c : ℕ) (e : LimitFault) → Changed res ls exit (Err e) → Changed (on_top res b new c) (ls ++ (l ∷ [])) (ls ++ (l ∷ [])) (Err e)
-  below_refuses (Ok r) ls exit l new true c e h = (cc, cc)
-  below_refuses (Ok r) ls exit l new false c e h = (cc, cc)
-  below_refuses (Err n) ls exit l new b c e h = (h.0, refl)
+  -- the ways through a change of a layer: both change, this limit alone refuses, or the pile below does
+  both_change : (res : Result (List (Limit A)) ℕ) (ls exit : List (Limit A)) (l new : Limit A) (c : ℕ) → Changed res ls exit (Ok tt) → Changed (on_top res false new c) (ls ++ (l ∷ [])) (exit ++ (new ∷ [])) (Ok tt)
+  both_change (Ok r) ls exit l new c h = (refl, ap (λ r. r ++ (new ∷ [])) h.1)
+  both_change (Err n) ls exit l new c h = (cc, cc)
 
   top_refuses : (res : Result (List (Limit A)) ℕ) (ls exit : List (Limit A)) (l new : Limit A) (c : ℕ) → Changed res ls exit (Ok tt) → Changed (on_top res true new c) (ls ++ (l ∷ [])) (ls ++ (l ∷ [])) (Err (fault_at c))
   top_refuses (Ok r) ls exit l new c h = (refl, refl)
   top_refuses (Err n) ls exit l new c h = (cc, cc)
 
-  both_change : (res : Result (List (Limit A)) ℕ) (ls exit : List (Limit A)) (l new : Limit A) (c : ℕ) → Changed res ls exit (Ok tt) → Changed (on_top res false new c) (ls ++ (l ∷ [])) (exit ++ (new ∷ [])) (Ok tt)
-  both_change (Ok r) ls exit l new c h = (refl, ap (λ r. r ++ (new ∷ [])) h.1)
-  both_change (Err n) ls exit l new c h = (cc, cc)
+  below_refuses : (res : Result (List (Limit A)) ℕ) (ls exit : List (Limit A)) (l new : Limit A) (b : Bool) (c : ℕ) (e : LimitFault) → Changed res ls exit (Err e) → Changed (on_top res b new c) (ls ++ (l ∷ [])) (ls ++ (l ∷ [])) (Err e)
+  below_refuses (Ok r) ls exit l new true c e h = (cc, cc)
+  below_refuses (Ok r) ls exit l new false c e h = (cc, cc)
+  below_refuses (Err n) ls exit l new b c e h = (h.0, refl)
 
-  module _ (test : Limit A → Bool) (change : Limit A → Limit A) (ls below : List (Limit A)) (l : Limit A) where
-    pub layer_refused : (e : LimitFault) → Changed (changing test change ls) ls below (Err e) → Changed (changing test change (ls ++ (l ∷ []))) (ls ++ (l ∷ [])) (ls ++ (l ∷ [])) (Err e)
-    layer_refused e h = rw (changing_push test change ls l) (below_refuses (changing test change ls) ls below l (change l) (test l) (length ls) e h)
+  refused_same : (res : Result (List (Limit A)) ℕ) (ls exit : List (Limit A)) (e : LimitFault) → Changed res ls exit (Err e) → exit ≡ ls
+  refused_same (Ok r) ls exit e h = cc
+  refused_same (Err n) ls exit e h = h.1
 
-    pub layer_changed : (out : Option A) (exit : List (Limit A)) (r : Result (Unit {0}) LimitFault) → Tells out l (test l) (change l) → Changed (changing test change ls) ls below (Ok tt) → ChangedAbove out ls below l exit r → Changed (changing test change (ls ++ (l ∷ []))) (ls ++ (l ∷ [])) exit r
-    layer_changed None exit r t h c = rw (changing_push test change ls l, t, c.0, c.1) (top_refuses (changing test change ls) ls below l (change l) (length ls) h)
-    layer_changed (Some x) exit r t h c = rw (changing_push test change ls l, t.0, t.1, c.0, c.1) (both_change (changing test change ls) ls below l (with_out o l (Some x)) (length ls) h)
+  pub layer_changed : (test : Limit A → Bool) (change : Limit A → Limit A) (ls below : List (Limit A)) (l : Limit A) (out : Option A) (told r : Result (Unit {0}) LimitFault) (exit : List (Limit A))
+      → Tells out l (test l) (change l) → Changed (changing test change ls) ls below told → ChangedAbove out told ls below l exit r → Changed (changing test change (ls ++ (l ∷ []))) (ls ++ (l ∷ [])) exit r
+  layer_changed test change ls below l (Some x) (Ok u) r exit t h c =
+      rw (changing_push test change ls l, t.0, t.1, c.0, c.1) (both_change (changing test change ls) ls below l (with_out o l (Some x)) (length ls) h)
+  layer_changed test change ls below l None (Ok u) r exit t h c =
+      rw (changing_push test change ls l, t, c.0, c.1) (top_refuses (changing test change ls) ls below l (change l) (length ls) h)
+  layer_changed test change ls below l (Some x) (Err e) r exit t h c =
+      rw (changing_push test change ls l, c.0, c.1, refused_same (changing test change ls) ls below e h) (below_refuses (changing test change ls) ls below l (change l) (test l) (length ls) e h)
+  layer_changed test change ls below l None (Err e) r exit t h c =
+      rw (changing_push test change ls l, c.0, c.1) (below_refuses (changing test change ls) ls below l (change l) (test l) (length ls) e h)

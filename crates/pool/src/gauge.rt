@@ -1,7 +1,6 @@
-ghost use Rattle.std.specs.Prelude.{◌≡◌, ◌↔◌, Ok, Err, IsTrue, IfSome, IfNone};
-ghost use Rattle.pool.specs.Limits.{part, room};
+ghost use Rattle.std.specs.Prelude.{◌≡◌, ◌↔◌, IsTrue, not};
+ghost use Rattle.pool.specs.Limits.{part, within, room};
 
-use crate::limit_fault::LimitFault;
 use amount::Amount;
 
 // What would be out with the amount more, where that is defined and part of the ceiling.
@@ -29,11 +28,18 @@ impl<A: Amount> Gauge<A> {
         }
     }
 
-    // Whether the amount is part of the ceiling.
-    pub(crate) fn holds(&self, amount: A) -> bool
-        ensures { result ≡ part A.Amount.ops amount self.now.ceiling }
+    // Whether the amount is no part of the ceiling.
+    pub(crate) fn is_tall(&self, amount: A) -> bool
+        ensures { result ≡ not (part A.Amount.ops amount self.now.ceiling) }
     {
-        self.ceiling.minus(amount).is_some()
+        self.ceiling.minus(amount).is_none()
+    }
+
+    // Whether there is no room for the amount beside what is out.
+    pub(crate) fn is_short(&self, amount: A) -> bool
+        ensures { result ≡ not (within A.Amount.ops (A.Amount.ops.plus self.now.out amount) self.now.ceiling) }
+    {
+        self.grown(amount).is_none()
     }
 
     // What would be out with the amount more, where there is room.
@@ -48,15 +54,6 @@ impl<A: Amount> Gauge<A> {
         ensures { result ≡ A.Amount.ops.minus self.now.out amount }
     {
         self.out.minus(amount)
-    }
-
-    // From now on this much is out; refused by the limit at the place where the change has no such amount.
-    pub(crate) fn put(&mut self, out: Option<A>, place: u8) -> Result<(), LimitFault>
-        ensures changed { IfSome out (λ x. (result ≡ Ok tt) × (self.new ≡ record self.old { out = x })) }
-        ensures refused { IfNone out ((result ≡ Err (record { place = place })) × (self.new ≡ self.old)) }
-    {
-        self.out = out.ok_or(LimitFault { place })?;
-        Ok(())
     }
 
     pub(crate) fn idle(&self) -> bool

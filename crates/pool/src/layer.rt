@@ -1,5 +1,6 @@
 ghost use Rattle.std.specs.Prelude.{◌≡◌, ◌&&◌, if◌then◌else◌, [], ◌∷◌, ◌++◌, length, Some as There};
 ghost use Rattle.std.specs.Bool.{then_some};
+ghost use Rattle.std.specs.Fn.{FnOnceReturnsAtMut};
 ghost use Rattle.std.specs.Option.{option_or};
 ghost use Rattle.pool.specs.Limits.{limit, told};
 ghost use Rattle.pool.specs.Changes.{ChangedAbove};
@@ -33,22 +34,47 @@ impl<A: Amount, P: Pool<A>, W: Watch> Layer<A, P, W> {
     }
 
     // The place of the pile below, or this one's where it watches the mark and fails.
-    fn lowest(&self, below: Option<u8>, mark: u8, fails: bool) -> Option<u8>
-        ensures { result ≡ option_or below (then_some (W.Watch.watched self.now.watch mark && fails) (told (length (P.Pool.limits self.now.below)))) }
+    fn lowest(&self, lower: Option<u8>, mark: u8, fails: bool) -> Option<u8>
+        ensures { result ≡ option_or lower (then_some (W.Watch.watched self.now.watch mark && fails) (told (length (P.Pool.limits self.now.below)))) }
     {
         let here = self.watch.watches(mark) & fails;
-        below.or(here.then_some(self.below.count()))
+        lower.or(here.then_some(self.below.count()))
     }
 
-    // This limit's part of a change that the pile below allows: `below` is that pile changed, `out` what would then be out here.
-    fn change(&mut self, mark: u8, below: P, out: Option<A>) -> Result<(), LimitFault>
-        ensures { ChangedAbove (if W.Watch.watched self.old.watch mark then out else There self.old.gauge.out) (P.Pool.limits self.old.below) (P.Pool.limits below) (gauged (W.Watch.watched self.old.watch) self.old.gauge) (layer_limits P.Pool.limits W.Watch.watched self.new) result }
+    // What is out here after a change that would make it `changed`: what is out now, where the mark is not watched.
+    fn after(&self, mark: u8, changed: Option<A>) -> Option<A>
+        ensures { result ≡ (if W.Watch.watched self.now.watch mark then changed else There self.now.gauge.out) }
     {
         if self.watch.watches(mark) {
-            self.gauge.put(out, self.below.count())?;
+            changed
+        } else {
+            Some(self.gauge.out)
         }
-        self.below = below;
-        Ok(())
+    }
+
+    // A change of the pile below, and of what is out here, which is to be `out`. This limit is asked first, so that the pile
+    // changes only where nothing refuses; where this one refuses, a trial tells whether a lower place does.
+    fn change<F: FnOnce(&mut P) -> Result<(), LimitFault>>(
+        &mut self,
+        out: Option<A>,
+        change: F,
+    ) -> Result<(), LimitFault>
+        requires { F.IsAlwaysCallable change }
+        ensures { (told : _) × (changed : P) × FnOnceReturnsAtMut F.FnOnce change self.old.below told changed × ChangedAbove out told (P.Pool.limits self.old.below) (P.Pool.limits changed) (gauged (W.Watch.watched self.old.watch) self.old.gauge) (layer_limits P.Pool.limits W.Watch.watched self.new) result }
+    {
+        match out {
+            Some(out) => {
+                change(&mut self.below)?;
+                self.gauge.out = out;
+                Ok(())
+            }
+            None => {
+                let mut trial = self.below;
+                change(&mut trial).and(Err(LimitFault {
+                    place: self.below.count(),
+                }))
+            }
+        }
     }
 }
 
@@ -58,28 +84,23 @@ impl<A: Amount, P: Pool<A>, W: Watch> Pool<A> for Layer<A, P, W> {
     ghost grounded = { λ p. grounded_push (P.Pool.limits p.below) _ (P.Pool.grounded p.below) };
 
     fn tall(&self, mark: u8, amount: A) -> Option<u8> {
-        let fails = !self.gauge.holds(amount);
-        self.lowest(self.below.tall(mark, amount), mark, fails)
+        let lower = self.below.tall(mark, amount);
+        self.lowest(lower, mark, self.gauge.is_tall(amount))
     }
 
     fn short(&self, mark: u8, amount: A) -> Option<u8> {
-        let fails = self.gauge.grown(amount).is_none();
-        self.lowest(self.below.short(mark, amount), mark, fails)
+        let lower = self.below.short(mark, amount);
+        self.lowest(lower, mark, self.gauge.is_short(amount))
     }
 
-    // The pile below is tried on a copy, so that nothing changes where it or this limit refuses.
     fn take(&mut self, mark: u8, amount: A) -> Result<(), LimitFault> {
-        let more = self.gauge.grown(amount);
-        let mut below = self.below;
-        below.take(mark, amount)?;
-        self.change(mark, below, more)
+        let more = self.after(mark, self.gauge.grown(amount));
+        self.change(more, |below| below.take(mark, amount))
     }
 
     fn give(&mut self, mark: u8, amount: A) -> Result<(), LimitFault> {
-        let rest = self.gauge.shrunk(amount);
-        let mut below = self.below;
-        below.give(mark, amount)?;
-        self.change(mark, below, rest)
+        let rest = self.after(mark, self.gauge.shrunk(amount));
+        self.change(rest, |below| below.give(mark, amount))
     }
 
     fn whole(&self) -> A {

@@ -30,21 +30,21 @@ impl<A: Amount> Pool<A> for Store<A> {
     ghost grounded = { λ _ _. refl };
 
     fn tall(&self, _mark: u8, amount: A) -> Option<u8> {
-        (!self.gauge.holds(amount)).then_some(0)
+        self.gauge.is_tall(amount).then_some(0)
     }
 
     fn short(&self, _mark: u8, amount: A) -> Option<u8> {
-        self.gauge.grown(amount).is_none().then_some(0)
+        self.gauge.is_short(amount).then_some(0)
     }
 
     fn take(&mut self, _mark: u8, amount: A) -> Result<(), LimitFault> {
-        let more = self.gauge.grown(amount);
-        self.gauge.put(more, 0)
+        self.gauge.out = self.gauge.grown(amount).ok_or(LimitFault { place: 0 })?;
+        Ok(())
     }
 
     fn give(&mut self, _mark: u8, amount: A) -> Result<(), LimitFault> {
-        let rest = self.gauge.shrunk(amount);
-        self.gauge.put(rest, 0)
+        self.gauge.out = self.gauge.shrunk(amount).ok_or(LimitFault { place: 0 })?;
+        Ok(())
     }
 
     fn whole(&self) -> A {
