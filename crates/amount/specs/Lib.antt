@@ -10,3 +10,4 @@ pub mod Bits
 pub mod PairLaws
 pub mod PhaseLaws
 pub mod Carried
+pub mod Words

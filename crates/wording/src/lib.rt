@@ -1,11 +1,8 @@
-// Amounts in words, for every archived kind that is told so.
+// Amounts in words, for every archived kind that is told so, and marks.
 #![tactic(auto)]
 
-mod amounts;
 mod listed;
-mod no_memory;
-mod sets;
+mod marks;
 
 pub use listed::Listed;
-pub use no_memory::NoMemory;
-pub use sets::put_marks;
+pub use marks::Marks;

@@ -1,14 +1,34 @@
-ghost use Rattle.std.specs.Prelude.{◌≡◌, ℕ, List, ◌++◌, string_bytes, OnOk};
+ghost use Rattle.std.specs.Prelude.{◌≡◌, ℕ, List, Some, codes, refl};
+ghost use Rattle.std.specs.Fmt.{◌++?◌};
+ghost use Rattle.amount.specs.Words.{phases_text, modules_text, pair_text};
 
-use crate::no_memory::NoMemory;
+use amount::{Modules, Pair, Phases};
 use archive::Archived;
+use std::fmt;
 
 // An archived kind whose amounts are told in words.
-pub trait Listed: Archived {
+pub trait Listed: Archived + fmt::Display {
     // the text of an amount
     ghost words: { Self → List ℕ };
 
-    // Adds the amount's text.
-    fn list(self, out: &mut String) -> Result<(), NoMemory>
-        ensures { OnOk result (string_bytes out.new ≡ string_bytes out.old ++ words self) };
+    // that is what an amount prints
+    ghost told: { (a : Self) → Self.output a ≡ Some (words a) };
+}
+
+impl Listed for Phases {
+    ghost words = { phases_text };
+
+    ghost told = { λ _. refl };
+}
+
+impl Listed for Modules {
+    ghost words = { modules_text };
+
+    ghost told = { λ _. refl };
+}
+
+impl<L: Listed, R: Listed> Listed for Pair<L, R> {
+    ghost words = { pair_text L.Listed.words R.Listed.words };
+
+    ghost told = { λ p i. L.Listed.told p.left i ++? Some (codes " ") ++? R.Listed.told p.right i };
 }
