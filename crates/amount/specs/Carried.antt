@@ -3,7 +3,8 @@ use Rattle.std.specs.Prelude.{◌≡◌, Some, None, Option, refl}
 use Rattle.std.proofs.Common.{sym, ap, ◌∙◌}
 use Rattle.std.specs.Option.{option_map}
 use Rattle.amount.specs.Arithmetic.{Ops, Laws, bind}
-use Rattle.amount.specs.Partial.{never, some_inj}
+use Rattle.amount.specs.Partial.{never}
+use Rattle.std.proofs.lemmas.Option.{same_Some}
 
 -- the operations of the other kind, carried over
 abbrev pub carried : {A B : Type 0} → (A → B) → (B → A) → Ops B → Ops A
@@ -17,7 +18,7 @@ carried to from o = record {
 module _ {A B : Type 0} (to : A → B) (from : B → A) (from-to : (a : A) → from (to a) ≡ a) (to-from : (b : B) → to (from b) ≡ b) where
   pub mapped_some : (o : Option B) (a : A) → option_map from o ≡ Some a → o ≡ Some (to a)
   mapped_some None a e = never refl e
-  mapped_some (Some b) a e = ap Some (sym (to-from b) ∙ ap to (some_inj (from b) a e))
+  mapped_some (Some b) a e = ap Some (sym (to-from b) ∙ ap to (same_Some (from b) a e))
 
   pub some_mapped : (o : Option B) (a : A) → o ≡ Some (to a) → option_map from o ≡ Some a
   some_mapped o a e = ap (option_map from) e ∙ ap Some (from-to a)

@@ -8,7 +8,8 @@ use Rattle.std.specs.Option.{MatchOption, IsSomeAnd, SomeIff}
 use Rattle.amount.specs.Arithmetic.{Ops, Laws, bind}
 use Rattle.amount.specs.Counts.{fitted, count_ops, amps, amps_number, amps_ops}
 use Rattle.amount.specs.declared.amps.Amps.{Amps}
-use Rattle.amount.specs.Partial.{some_inj, never, given_yes, given_no}
+use Rattle.amount.specs.Partial.{never, given_yes, given_no}
+use Rattle.std.proofs.lemmas.Option.{same_Some}
 
 -- a count is made of the number, where there is one
 abbrev pub Makes : {T : Type 0} → Option ℕ → Option T → (ℕ → T → Type 0) → Type 0
@@ -32,11 +33,11 @@ module _ {T : Type 0} {limit : ℕ} {make : (n : ℕ) → n < limit → T} {numb
 
   -- a count is known by its number
   pub number_inj : (a b : T) → number a ≡ number b → a ≡ b
-  number_inj a b e = some_inj a b (sym (fitted_number a) ∙ ap (fitted limit make) e ∙ fitted_number b)
+  number_inj a b e = same_Some a b (sym (fitted_number a) ∙ ap (fitted limit make) e ∙ fitted_number b)
 
   pub fitted_is : (n : ℕ) (a : T) → fitted limit make n ≡ Some a → number a ≡ n
   fitted_is n a e = elim (dec_lt n limit) [
-    | yes h ↦ ap number (some_inj a (make n h) (sym e ∙ fitted_some n h)) ∙ counted.number_make n h
+    | yes h ↦ ap number (same_Some a (make n h) (sym e ∙ fitted_some n h)) ∙ counted.number_make n h
     | no h ↦ never (fitted_none n (omega arith)) e
   ]
 

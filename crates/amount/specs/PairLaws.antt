@@ -5,13 +5,14 @@ use Rattle.std.proofs.lemmas.Bool.{and_parts, and_from}
 use Rattle.amount.specs.Arithmetic.{Ops, Laws, bind}
 use Rattle.amount.specs.Pairs.{pair_of, both, pair_ops}
 use Rattle.amount.specs.declared.pair.Pair.{Pair}
-use Rattle.amount.specs.Partial.{never, some_inj}
+use Rattle.amount.specs.Partial.{never}
+use Rattle.std.proofs.lemmas.Option.{same_Some}
 
 pub both_some : {L R : Type 0} (x : Option L) (y : Option R) (p : Pair L R) → both pair_of x y ≡ Some p → (x ≡ Some p.left) × (y ≡ Some p.right)
 both_some None y p e = never refl e
 both_some (Some x) None p e = never refl e
 both_some {L} {R} (Some x) (Some y) p e =
-    let q = some_inj (pair_of x y) p e in
+    let q = same_Some (pair_of x y) p e in
     (ap (λ (p : Pair L R). Some p.left) q, ap (λ (p : Pair L R). Some p.right) q)
 
 both_none : {L R : Type 0} (x : Option L) → None ≡ both {B = R} pair_of x None

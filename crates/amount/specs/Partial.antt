@@ -1,6 +1,8 @@
 -- Values that may be absent, and the law of grouping from one half of it.
-use Rattle.std.specs.Prelude.{◌≡◌, ℕ, ◌⊎◌, Some, None, Option, refl}
-use Rattle.std.proofs.Common.{sym, ap, ◌∙◌, inl, inr, arith}
+use Rattle.std.specs.Prelude.{◌≡◌, ◌⊎◌, Some, None, Option, refl}
+use Rattle.std.proofs.Common.{sym, ap, ◌∙◌, inl, inr}
+use Rattle.std.proofs.lemmas.Option.{none-some}
+pub use Rattle.std.proofs.lemmas.Option.{same_Some as some_inj}
 use Rattle.amount.specs.Arithmetic.{bind}
 use Rattle.amount.specs.Counts.{given}
 
@@ -8,11 +10,8 @@ pub seen : {A : Type 0} (o : Option A) → (o ≡ None) ⊎ ((x : A) × (o ≡ S
 seen None = inl refl
 seen (Some x) = inr (x, refl)
 
-pub some_inj : {A : Type 0} (x y : A) → Some x ≡ Some y → x ≡ y
-some_inj x y e = cc
-
 pub never : {A B : Type 0} {o : Option A} {x : A} → o ≡ None → o ≡ Some x → B
-never p q = let z : ◌≡◌ {A = ℕ} 0 1 = cc in absurd (omega arith)
+never {x = x} p q = absurd (none-some x (sym p ∙ q))
 
 pub bind_some : {A B : Type 0} (o : Option A) (f : A → Option B) (y : B) → bind o f ≡ Some y → (x : A) × (o ≡ Some x) × (f x ≡ Some y)
 bind_some None f y e = never refl e

@@ -52,10 +52,6 @@ module _ {L R : Type 0} {wl wr : ℕ} {bl : L → List ℕ} {br : R → List ℕ
       let k = joined_is wl wr h in
       length-append (bl p.left) (br p.right) ∙ omega (arith, l.long k.0 p.left, r.long k.1 p.right, k.2)
 
-  -- what code shows of a pair that it reads, side by side
-  pub pair_reads : (bs : List ℕ) (x : Option L) (y : Option R) (n : ℕ) → n ≡ joined wl wr → n ≤ 16 → length bs ≡ n → x ≡ dl (take wl bs) → y ≡ dr (drop wl bs) → both pair_of x y ≡ pair_decode wl wr dl dr bs
-  pair_reads bs x y n e h k p q = sym (exactly_yes (joined wl wr) bs _ (omega (arith, e)) (k ∙ e) ∙ ap₂ (both pair_of) (sym p) (sym q))
-
   pub pair_codec : Codec (joined wl wr) (pair_bytes bl br) (pair_decode wl wr dl dr)
   pair_codec = record {
     long = long;

@@ -1,6 +1,6 @@
 -- Widths, and bytes of exactly a width.
-use Rattle.std.specs.Prelude.{◌≡◌, ℕ, ◌+◌, ◌<◌, ◌≤◌, cond, List, length, Some, None, Option, ◌≢◌, nat_le}
-use Rattle.std.proofs.Common.{sym, ap, ◌∙◌, inl, inr, arith}
+use Rattle.std.specs.Prelude.{◌≡◌, ℕ, ◌+◌, ◌<◌, ◌≤◌, List, length, Some, None, Option, ◌≢◌, nat_le}
+use Rattle.std.proofs.Common.{sym, ◌∙◌, inl, inr, arith}
 use Rattle.std.proofs.lemmas.Bool.{le-leb, lt-leb, eq-eqb, ne_eqb, and_from, and_left, and_right, cond-true, cond-false, cases_lt, cases_eq}
 use Rattle.std.proofs.lemmas.Bool.Decides.{leb_tells}
 use Rattle.amount.specs.Partial.{never}
@@ -27,14 +27,4 @@ exactly_some w bs x a e = elim (cases_lt 16 w) [
 
 -- a pair that is not too wide has no side that is
 pub joined_is : (l r : ℕ) → joined l r ≤ 16 → (l ≤ 16) × (r ≤ 16) × (joined l r ≡ l + r)
-joined_is l r h = elim (leb_tells l 16) [
-  | inr x ↦ let e : joined l r ≡ 17 = ap (λ b. cond b (cond (nat_le r 16) (cond (nat_le (l + r) 16) (l + r) 17) 17) 17) x.0 in absurd (omega arith)
-  | inl x ↦ elim (leb_tells r 16) [
-    | inr y ↦ let e : joined l r ≡ 17 = ap (λ b. cond b (cond (nat_le r 16) (cond (nat_le (l + r) 16) (l + r) 17) 17) 17) x.0 ∙ ap (λ b. cond b (cond (nat_le (l + r) 16) (l + r) 17) 17) y.0 in absurd (omega arith)
-    | inl y ↦ let e : joined l r ≡ cond (nat_le (l + r) 16) (l + r) 17 = ap (λ b. cond b (cond (nat_le r 16) (cond (nat_le (l + r) 16) (l + r) 17) 17) 17) x.0 ∙ ap (λ b. cond b (cond (nat_le (l + r) 16) (l + r) 17) 17) y.0 in
-        elim (leb_tells (l + r) 16) [
-          | inr z ↦ let f : joined l r ≡ 17 = e ∙ ap (λ b. cond b (l + r) 17) z.0 in absurd (omega arith)
-          | inl z ↦ (x.1, y.1, e ∙ ap (λ b. cond b (l + r) 17) z.0)
-        ]
-  ]
-]
+joined_is l r h = elim (leb_tells l 16) [ inr x ↦ grind arith | inl x ↦ elim (leb_tells r 16) [ inr y ↦ grind arith | inl y ↦ elim (leb_tells (l + r) 16) [ inr z ↦ grind arith | inl z ↦ grind arith ] ] ]

@@ -22,9 +22,10 @@ impl<L: Archived, R: Archived> Archived for Pair<L, R> {
             return None;
         }
         let (front, back) = from.split_at(L::W);
-        let left = L::read(front)?;
-        let right = R::read(back)?;
-        Some(Pair { left, right })
+        Some(Pair {
+            left: L::read(front)?,
+            right: R::read(back)?,
+        })
     }
 
     fn write(self, out: &mut [u8]) -> Result<(), WrongLength> {

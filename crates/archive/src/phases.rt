@@ -19,19 +19,23 @@ impl Archived for Phases {
         if from.len() != 6 {
             return None;
         }
-        let l1 = Amps::read(&from[0..2])?;
-        let l2 = Amps::read(&from[2..4])?;
-        let l3 = Amps::read(&from[4..6])?;
-        Some(Phases { l1, l2, l3 })
+        let (l1, rest) = from.split_at(2);
+        let (l2, l3) = rest.split_at(2);
+        Some(Phases {
+            l1: Amps::read(l1)?,
+            l2: Amps::read(l2)?,
+            l3: Amps::read(l3)?,
+        })
     }
 
     fn write(self, out: &mut [u8]) -> Result<(), WrongLength> {
         if out.len() != 6 {
             return Err(WrongLength);
         }
-        self.l1.write(&mut out[0..2])?;
-        self.l2.write(&mut out[2..4])?;
-        self.l3.write(&mut out[4..6])?;
-        Ok(())
+        let (l1, rest) = out.split_at_mut(2);
+        let (l2, l3) = rest.split_at_mut(2);
+        self.l1.write(l1)?;
+        self.l2.write(l2)?;
+        self.l3.write(l3)
     }
 }

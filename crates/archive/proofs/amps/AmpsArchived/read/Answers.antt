@@ -1,6 +1,6 @@
 use Rattle.std.proofs.Common.{◌∙◌, sym, lit≤}
 use Rattle.amount.specs.CountLaws.{amps_counted}
-use Rattle.archive.proofs.Pieces.{made_of, count_read, number_two}
+use Rattle.archive.proofs.Reading.{made_of, count_read, number_two}
 use Rattle.archive.proofs.amps.AmpsArchived.read.Goals as goal
 
 pub returns : goal.returns

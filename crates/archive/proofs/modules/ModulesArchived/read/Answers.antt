@@ -1,6 +1,6 @@
 use Rattle.std.proofs.Common.{◌∙◌, sym, lit≤}
 use Rattle.amount.specs.SetLaws.{modules_counted}
-use Rattle.archive.proofs.Pieces.{made_of, count_read, number_eight}
+use Rattle.archive.proofs.Reading.{made_of, count_read, number_eight}
 use Rattle.archive.proofs.modules.ModulesArchived.read.Goals as goal
 
 pub returns : goal.returns
