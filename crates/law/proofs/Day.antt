@@ -19,7 +19,8 @@ use Rattle.orders.proofs.Bays.{some_none, bay_shut}
 use Rattle.orders.proofs.Planned.{held_hand, out_hand_on, out_hand_off}
 use Rattle.orders.proofs.Stand.{walk_complete, planner_agrees}
 use Rattle.orders.proofs.Walked.{true_false, first_some}
-use Rattle.law.proofs.Pile.{never_torn, sums_idle, short_same, total_back, matches_taken, bounds_taken}
+use Rattle.pool.proofs.Stays.{bounds_taken}
+use Rattle.law.proofs.Pile.{never_torn, sums_idle, short_same, total_back, matches_taken}
 use Rattle.law.proofs.Played.{order_handed, out_vacant}
 use Rattle.law.proofs.Rows.{refused_accepted, nowhere, bay_row, open_bound, row_rest, row_empty, slips_set, Slips, slip_alone}
 use Rattle.law.proofs.Keeps.{Inv, inv_new, inv_step, inv_after}
@@ -79,7 +80,7 @@ module _ {A : Type 0} (o : Ops A) (L : Laws o) (ls : List (Bound A)) where
       let b : bay t i ≡ Some s = x.opened in
       let room : short_place o st.pile s.mark x.need ≡ None = short_same o L st.pile t s.mark x.need v.sums ∙ subst (λ bs. short_under o bs t s.mark x.need ≡ None) (sym v.frame) x.room in
       let sums = matches_taken o L s.mark x.need st.pile t u (λ l z. out_hand_on o L l t i s x.need s.claim b full z) (λ l z. out_hand_off o L l t i s s.claim b z) v.sums room in
-      let same = bounds_taken o L s.mark x.need st.pile ∙ v.frame in
+      let same = bounds_taken o s.mark x.need st.pile ∙ v.frame in
       let names = ap length (safe_same o L (asked_pile o st s x.need) u sums) ∙ ((walk_complete o L).exists (bounds (asked_pile o st s x.need)) u).0 (i ∷ os, subst (λ bs. Order o bs u (i ∷ os)) (sym same) (order_handed o L ls t i os r)) in (
         granted (length (safe_order o (asked_pile o st s x.need) u)) (record { number = st.number; at = i }),
         through st.shut 1 v.opened
@@ -240,7 +241,7 @@ module _ {A : Type 0} (o : Ops A) (L : Laws o) (ls : List (Bound A)) where
       let fits = subst (λ bs. short_under o bs t s.mark a ≡ None) v.frame (sym (short_same o L st.pile t s.mark a v.sums) ∙ d.room) in
       let held = held_hand o L ls t u s.mark a (λ l z. leq_eq o L (on l z)) (λ l z. leq_eq o L (off l z)) v.held fits in
       let sums = matches_taken o L s.mark a st.pile t u on off v.sums d.room in
-      let same : safe_order o ks u ≡ lowest_walk o ls u = safe_same o L ks u sums ∙ ap (λ bs. lowest_walk o bs u) (bounds_taken o L s.mark a st.pile ∙ v.frame) in
+      let same : safe_order o ks u ≡ lowest_walk o ls u = safe_same o L ks u sums ∙ ap (λ bs. lowest_walk o bs u) (bounds_taken o s.mark a st.pile ∙ v.frame) in
       let found = (walk_complete o L).exists ls u in
       let plan = planner_agrees o L ls u held in
       let test : (eqb (length (safe_order o ks u)) (open_bays u) ≡ true) ↔ Succeeds o ls u =

@@ -10,7 +10,8 @@ use Rattle.orders.specs.Sessions.{Bays, Session, WithinCeilings, bay, held_under
 use Rattle.law.specs.Book.{asked_pile, asked_bays, Answer, Call, Reply, Row, Slip, State, accepted, after, all_in, answer, ask_answer, asked, asks, confirm_answer, confirmed, confirms, done, empty, end_answer, ends, gave, give_answer, give_back, gives, grant_answer, is_moving, less_held, moved, moving, new, no_rows, open_answer, opens, orders, refused, rest, row, seen, seen_row, slip_bay, step, with_mark, withdraw_answer, withdrawn, withdraws}
 use Rattle.law.specs.Law.{Sums}
 use Rattle.law.proofs.Opening.{total_open, order_open}
-use Rattle.law.proofs.Pile.{bounds_taken, bounds_given, matches_taken, matches_given, idle_sums, total_back, total_beside, short_same}
+use Rattle.pool.proofs.Stays.{bounds_taken, bounds_given}
+use Rattle.law.proofs.Pile.{matches_taken, matches_given, idle_sums, total_back, total_beside, short_same}
 use Rattle.law.proofs.Played.{out_vacant}
 use Rattle.law.proofs.Rows.{refused_accepted, pass, pass_at, none_given, not_not, nowhere, bay_row, row_rest, vacant_rows, slips_set, Slips, slip_alone}
 use Rattle.orders.proofs.Bays.{share_on, share_off, Below, Dom, dom_refl, dom_put_left}
@@ -92,7 +93,7 @@ module _ {A : Type 0} (o : Ops A) (L : Laws o) where
     inv_back i s w x a h ex b e on off d sl =
         let t = seen st.rows in
         let dom : Dom o L (set t i x) t = dom_put_left o L x t t i (dom_refl o L t) (rw b d) in
-        inv_set (given_back o s.mark a st.pile) i w x ex (bounds_given o L s.mark a st.pile ∙ v.frame)
+        inv_set (given_back o s.mark a st.pile) i w x ex (bounds_given o s.mark a st.pile ∙ v.frame)
         (matches_given o L s.mark a st.pile t (set t i x) (λ l z. total_back o L l t i s x a h b e (on l z) z) (λ l z. total_beside o L l t i s x b (off l z) z) v.sums)
         (held_down o L ls (set t i x) t dom v.held)
         (order_down o L ls v.order.0 (set t i x) t dom v.order.1)
@@ -181,7 +182,7 @@ module _ {A : Type 0} (o : Ops A) (L : Laws o) where
         let w : Row A = moving (with_holding s k) a in
         let b : bay t i ≡ Some s = bay_row st.rows i ∙ ap seen_row g.at_rest in
         let inside : i < length st.rows = open_row st.rows i s g.at_rest in
-        let same = bounds_taken o L s.mark a st.pile ∙ v.frame in
+        let same = bounds_taken o s.mark a st.pile ∙ v.frame in
         let sums = matches_taken o L s.mark a st.pile t u (λ l z. out_hand_on o L l t i s a k b g.grown z) (λ l z. out_hand_off o L l t i s k b z) v.sums g.room in
         inv_set (asked_pile o st s a) i w (Some (with_holding s k)) refl same
         sums

@@ -15,19 +15,6 @@ module _ {A : Type 0} (o : Ops A) (L : Laws o) where
   short_same [] t m a h = refl
   short_same (k ∷ ks) t m a h = rw (h.0, short_same ks t m a h.1)
 
-  pub bounds_at : (k : Limit A) (w : Bool) (x : Option A) → (cond w (with_out o k x) k).bound ≡ k.bound
-  bounds_at k false x = refl
-  bounds_at k true None = refl
-  bounds_at k true (Some a) = refl
-
-  pub bounds_taken : (m : ℕ) (a : A) (ks : List (Limit A)) → bounds (taken o m a ks) ≡ bounds ks
-  bounds_taken m a [] = refl
-  bounds_taken m a (k ∷ ks) = rw (bounds_at k (k.bound.watches m) (o.plus k.out a), bounds_taken m a ks)
-
-  pub bounds_given : (m : ℕ) (a : A) (ks : List (Limit A)) → bounds (given_back o m a ks) ≡ bounds ks
-  bounds_given m a [] = refl
-  bounds_given m a (k ∷ ks) = rw (bounds_at k (k.bound.watches m) (o.minus k.out a), bounds_given m a ks)
-
   -- the change of one limit follows the change of the tally
   at_out : (k : Limit A) (w : Bool) (x : Option A) (u : Bays A) → (w ≡ true → (held_under o k.bound u ≡ x) × ((a : A) × (x ≡ Some a))) → (w ≡ false → held_under o k.bound u ≡ Some k.out)
       → held_under o (cond w (with_out o k x) k).bound u ≡ Some (cond w (with_out o k x) k).out

@@ -7,7 +7,8 @@ use Rattle.orders.specs.Orders.{lowest, lowest_walk, ready, walk}
 use Rattle.orders.specs.Sessions.{Bays, Session, add, bay, emptied, held_under, short_under}
 use Rattle.law.specs.Law.{Sums}
 use Rattle.law.specs.SafeOrder.{finished, may_finish, safe_order, safe_from}
-use Rattle.law.proofs.Pile.{short_same, bounds_given, matches_given, never_torn, total_back, total_beside}
+use Rattle.pool.proofs.Stays.{bounds_given}
+use Rattle.law.proofs.Pile.{short_same, matches_given, never_torn, total_back, total_beside}
 
 module _ {A : Type 0} (o : Ops A) (L : Laws o) where
   ready_same : (ks : List (Limit A)) (t : Bays A) (b : Option (Session A)) → Sums o ks t → may_finish o ks b ≡ ready o (bounds ks) t b
@@ -35,7 +36,7 @@ module _ {A : Type 0} (o : Ops A) (L : Laws o) where
       let f : o.plus s.holding o.zero ≡ Some s.holding = L.commutes s.holding o.zero ∙ L.identity s.holding in
       let back : (l : Bound A) → l.watches s.mark ≡ true → held_under o l t ≡ add o (Some s.holding) (held_under o l (emptied t i)) = λ l w. total_back o L l t i s None s.holding o.zero e f refl w in
       subst (λ ls. Sums o ls (emptied t i) × (bounds ls ≡ bounds ks)) (sym (gives_back ks t i s e m))
-      (matches_given o L s.mark s.holding ks t (emptied t i) back (λ l w. total_beside o L l t i s None e refl w) m, bounds_given o L s.mark s.holding ks)
+      (matches_given o L s.mark s.holding ks t (emptied t i) back (λ l w. total_beside o L l t i s None e refl w) m, bounds_given o s.mark s.holding ks)
 
   pub walks_agree : (n : ℕ) (ks : List (Limit A)) (t : Bays A) → Sums o ks t → safe_from o n ks t ≡ walk o (bounds ks) n t
   walks_agree zero ks t m = refl

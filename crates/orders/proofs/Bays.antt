@@ -1,13 +1,14 @@
 -- Bays, sums over them, and the order "t has no more out than u, bay by bay".
 use Rattle.std.proofs.Common.{◌≡◌, ℕ, zero, suc, Bool, true, false, cond, [], ◌∷◌, set, Some, None, Option, sym, refl, ap, ◌∙◌, arith}
 use Rattle.amount.specs.Arithmetic.{Laws, Ops}
+use Rattle.amount.specs.Partial.{never}
 use Rattle.pool.specs.Limits.{Bound}
 use Rattle.orders.specs.Sessions.{Session, Bays, AllEmpty, add, bay, share, emptied, held_under}
 use Rattle.orders.proofs.Sums.{Leq, add_zero, add_left_comm, add_right_comm, leq_refl, leq_zero, leq_add}
 
 -- no bay of an empty list is open
 pub some_none : {B : Type 0} {C : Type 0} {b : B} {v : Option B} → v ≡ Some b → v ≡ None → C
-some_none p q = let z : ◌≡◌ {A = ℕ} 0 1 = cc in absurd (omega arith)
+some_none p q = never q p
 
 module _ {A : Type 0} where
   pub bay_put : (v : Option (Session A)) (t : Bays A) (i : ℕ) (s : Session A) → bay t i ≡ Some s → bay (set t i v) i ≡ v

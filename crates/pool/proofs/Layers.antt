@@ -39,11 +39,6 @@ module _ {A : Type 0} (o : Ops A) where
   idle_parts [] l h = (tt, h.0)
   idle_parts (x ∷ ls) l h = let r = idle_parts ls l h.1 in ((h.0, r.0), r.1)
 
-  -- there is room where the sum is defined and part of the ceiling
-  pub room_within : (ceiling : A) (s : Option A) → is_some (bounded o ceiling s) ≡ within o s ceiling
-  room_within ceiling None = refl
-  room_within ceiling (Some s) = elim (part o s ceiling) as (λ t. is_some (cond t (Some s) None) ≡ t) [ true ↦ refl | false ↦ refl ]
-
   -- what would be out at a limit tells whether it refuses the change, and what it is afterwards
   abbrev pub Tells : Option A → Limit A → Bool → Limit A → Type 0
   Tells None l refuses changed = refuses ≡ true

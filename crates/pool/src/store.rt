@@ -37,6 +37,7 @@ impl<A: Amount> Pool<A> for Store<A> {
         self.gauge.is_short(amount).then_some(0)
     }
 
+    // One line each: a function for take and give both would be longer, and say less plainly what is out.
     fn take(&mut self, _mark: u8, amount: A) -> Result<(), LimitFault> {
         self.gauge.out = self.gauge.grown(amount).ok_or(LimitFault { place: 0 })?;
         Ok(())
