@@ -80,7 +80,7 @@ left : (a b c : Modules) → modules_ops.minus b a ≡ Some c → modules_ops.pl
 left a b c p =
     let h = given_held (ℕ_discrete (bit_and a.names b.names) a.names) (without b a) c p in
     let e : c.names ≡ b.names - a.names = ap (λ (m : Modules). m.names) (sym h.1) in
-    let z : bit_and a.names c.names ≡ 0 = ap (bit_and a.names) e ∙ part_rest 64 a.names b.names a.fits b.fits h.0 in
+    let z : bit_and a.names c.names ≡ 0 = ap (bit_and a.names) e ∙ part_rest a.names b.names h.0 in
     let l : a.names ≤ b.names = part_le a.names b.names h.0 in
     let o = or_disjoint a.names c.names z in
     sum_made a c b z (omega arith)

@@ -27,4 +27,10 @@ exactly_some w bs x a e = elim (cases_lt 16 w) [
 
 -- a pair that is not too wide has no side that is
 pub joined_is : (l r : ℕ) → joined l r ≤ 16 → (l ≤ 16) × (r ≤ 16) × (joined l r ≡ l + r)
-joined_is l r h = elim (leb_tells l 16) [ inr x ↦ grind arith | inl x ↦ elim (leb_tells r 16) [ inr y ↦ grind arith | inl y ↦ elim (leb_tells (l + r) 16) [ inr z ↦ grind arith | inl z ↦ grind arith ] ] ]
+joined_is l r h = elim (leb_tells l 16) [
+  | inr x ↦ grind arith
+  | inl x ↦ elim (leb_tells r 16) [
+    | inr y ↦ grind arith
+    | inl y ↦ elim (leb_tells (l + r) 16) [ inr z ↦ grind arith | inl z ↦ grind arith ]
+  ]
+]
