@@ -1,4 +1,3 @@
 pub mod Lowest
 pub mod Opened
-pub mod Seated
 pub mod Steps

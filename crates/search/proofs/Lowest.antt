@@ -1,6 +1,8 @@
 -- The lowest place, looked for from some place on.
-use Rattle.std.proofs.Common.{◌≡◌, ℕ, ◌+◌, ◌<◌, ◌≤◌, Bool, true, false, cond, List, length, get_or, drop, Some, None, Option, sym, refl, ap, ◌∙◌, arith}
+use Rattle.std.proofs.Common.{◌≡◌, ℕ, ◌+◌, ◌<◌, ◌≤◌, Bool, true, false, cond, ltb, List, [], ◌∷◌, length, get_or, drop, Some, None, Option, sym, refl, ap, ◌∙◌, arith}
+use Rattle.std.proofs.lemmas.Iterator.Adapters.{position_from-zero}
 use Rattle.std.proofs.lemmas.List.{drop_all, drop_more}
+use Rattle.std.specs.List.{position_from, position_or_len}
 use Rattle.amount.specs.Arithmetic.{bind}
 use Rattle.pool.specs.Limits.{lowest_place}
 
@@ -32,6 +34,18 @@ module _ {B : Type 0} (test : B → Bool) where
     lowest_past t =
         inv ∙ lowest_at i bs d h ∙ ap (λ b. from i (cond b (Some 0) (from 1 (lowest_place test (drop (i + 1) bs))))) (sym is ∙ t)
         ∙ from_next i (lowest_place test (drop (i + 1) bs))
+
+  -- as the library counts it
+  position_lowest : (i : ℕ) (bs : List B) → position_from test i bs ≡ from i (lowest_place test bs)
+  position_lowest i [] = refl
+  position_lowest i (b ∷ bs) = ap (cond (test b) (Some i)) (position_lowest (i + 1) bs) ∙ go (test b) (lowest_place test bs)
+    where
+      go : (t : Bool) (p : Option ℕ) → cond t (Some i) (from (i + 1) p) ≡ from i (cond t (Some 0) (from 1 p))
+      go true p = let e : i ≡ 0 + i = omega arith in ap Some e
+      go false p = sym (from_next i p)
+
+  pub lowest_position : (bs : List B) → cond (ltb (position_or_len test bs) (length bs)) (Some (position_or_len test bs)) None ≡ lowest_place test bs
+  lowest_position bs = position_from-zero test bs ∙ position_lowest 0 bs ∙ sym (from_start (lowest_place test bs))
 
   -- past the last there is none
   pub lowest_none : (i : ℕ) (bs : List B) → length bs ≤ i → lowest_place test bs ≡ from i (lowest_place test (drop i bs)) → None ≡ lowest_place test bs

@@ -1,4 +1,5 @@
 pub mod Completing
-pub mod Named
-pub mod Seats
+pub mod Emptied
+pub mod Padded
 pub mod Sheets
+pub mod Unpadded

@@ -1,7 +1,6 @@
 ghost use Rattle.std.specs.Prelude.{◌≡◌, ◌<◌, IfSome};
 ghost use Rattle.pool.specs.Limits.{lowest_place};
 ghost use Rattle.law.specs.SafeOrder.{may_finish, finished};
-ghost use Rattle.search.specs.Seats.{seats};
 
 use crate::trial::Trial;
 use amount::Amount;
@@ -12,13 +11,12 @@ use pool::Pool;
 pub(crate) fn may_finish<A: Amount, P: Pool<A>>(bay: &Option<Session<A>>, pile: &P) -> bool
     ensures { result ≡ may_finish A.Amount.ops (P.Pool.limits pile.now) bay.now }
 {
-    let Some(session) = *bay else {
-        return false;
-    };
-    match session.claim.minus(session.holding) {
-        Some(need) => pile.short(session.mark, need).is_none(),
-        None => false,
-    }
+    bay.is_some_and(|session| {
+        session
+            .claim
+            .minus(session.holding)
+            .is_some_and(|need| { pile.short(session.mark, need).is_none() })
+    })
 }
 
 // Gives back what the bay's session holds.
@@ -32,15 +30,10 @@ pub(crate) fn finish<A: Amount, P: Pool<A>>(bay: Option<Session<A>>, pile: &mut 
 
 impl<A: Amount> Trial<A> {
     // The lowest bay that may finish.
-    pub(crate) fn next_bay<P: Pool<A>>(&self, pile: &P) -> Option<u8>
-        ensures bay { result ≡ lowest_place (may_finish A.Amount.ops (P.Pool.limits pile.now)) (seats self.now) }
+    pub(crate) fn next_bay<P: Pool<A>>(&self, pile: &P) -> Option<usize>
+        ensures bay { result ≡ lowest_place (may_finish A.Amount.ops (P.Pool.limits pile.now)) self.now }
         ensures inside { IfSome result (λ i. i < 64) }
     {
-        for i in 0..64usize {
-            if may_finish(&self.bays[i], pile) {
-                return Some(i as u8);
-            }
-        }
-        None
+        self.bays.iter().position(|bay| may_finish(bay, pile))
     }
 }

@@ -1,25 +1,13 @@
-use Rattle.std.proofs.Common.{◌<◌, ◌≤◌, length, arith}
+use Rattle.std.proofs.Common.{◌∙◌, rules}
+use Rattle.std.proofs.lemmas.Iterator.{YieldsList-from_slice}
+use Rattle.std.proofs.lemmas.Iterator.Search.{position_from_yields_List}
 use Rattle.law.specs.SafeOrder.{may_finish}
-use Rattle.search.proofs.Lowest.{lowest_here, lowest_past, lowest_none}
+use Rattle.search.proofs.Lowest.{lowest_position}
 use Rattle.search.proofs.trial.Trial.next_bay.Goals as goal
+use borrow.Author.Tests.{tests}
 
-pub returns-then-may_finish : goal.returns-then-may_finish
-returns-then-may_finish g c =
+pub returns-clause-bay : goal.returns-clause-bay
+returns-clause-bay g c =
     let test = may_finish g.A.Amount.ops (g.P.Pool.limits c.args.pile.now) in
-    let h : c.loop-i.i < length c.args.self.now.bays = omega (arith, c.args.self.now.full) in
-    record {
-      bay = lowest_here test c.loop-i.i c.args.self.now.bays _ c.may_finish.result h c.may_finish.ensures c.loop-i.invariant c.if-may_finish.true;
-      inside = omega (arith, c.loop-i-test.true);
-    }
-
-pub loop-i-preserved : goal.loop-i-preserved
-loop-i-preserved g c =
-    let test = may_finish g.A.Amount.ops (g.P.Pool.limits c.args.pile.now) in
-    let h : c.loop-i.i < length c.args.self.now.bays = omega (arith, c.args.self.now.full) in
-    lowest_past test c.loop-i.i c.args.self.now.bays _ c.may_finish.result h c.may_finish.ensures c.loop-i.invariant c.if-may_finish.false
-
-pub returns : goal.returns
-returns g c =
-    let test = may_finish g.A.Amount.ops (g.P.Pool.limits c.args.pile.now) in
-    let h : length c.args.self.now.bays ≤ c.loop-i.i = omega (arith, c.args.self.now.full) in
-    record { bay = lowest_none test c.loop-i.i c.args.self.now.bays h c.loop-i.invariant; inside = tt }
+    let bays = c.args.self.now in
+    position_from_yields_List test _ _ c.position.result c.position.ensures.ran (YieldsList-from_slice bays (c.iter.ensures.rest ∙ c.self.view_is)) (λ x b q k. search (rules, tests)) ∙ lowest_position test bays

@@ -1,43 +1,56 @@
-use Rattle.std.proofs.Common.{◌≡◌, ◌<◌, length, take, refl, ap, ◌∙◌, arith, length-set}
-use Rattle.law.specs.SafeOrder.{safe_order}
-use Rattle.search.specs.Seats.{without}
-use Rattle.search.proofs.Steps.{none_named, one_named, all_named, full_named, one_emptied}
+use Rattle.std.proofs.Common.{◌≡◌, ◌+◌, ◌<◌, [], ◌∷◌, length, get_or, None, rules, sym, ap, ◌∙◌, arith, length-append, length-set}
+use Rattle.orders.specs.Sessions.{emptied}
+use Rattle.orders.proofs.Walked.{open_length}
+use Rattle.law.specs.SafeOrder.{finished, safe_order}
+use Rattle.search.specs.Emptied.{without}
+use Rattle.search.proofs.Steps.{next_open, none_named, one_named, all_named, without_more}
+use borrow.Author.Rules.{scaled_Fits}
 use Rattle.search.proofs.trial.Trial.safe_order.Goals as goal
 
-pub loop-n-init : goal.loop-n-init
-loop-n-init g c = (refl, none_named g.A.Amount.ops (g.P.Pool.limits c.args.pile.now) c.args.self.now.bays c.args.self.now.full, refl)
-
-pub returns-in_default : goal.returns-in_default
-returns-in_default g c =
-    let o = g.A.Amount.ops in
-    let all = safe_order o (g.P.Pool.limits c.args.pile.now) c.args.self.now.bays in
+pub loop-bay-init : goal.loop-bay-init
+loop-bay-init g c =
+    let t = c.args.self.now in
     record {
-      named = all_named o all c.loop-n.n _ c.loop-n.named (g.P.Pool.limits c.loop-n.trial) c.loop-n.self.bays c.in_default.ensures.bay c.loop-n.invariant.1;
-      left = c.loop-n.invariant.2;
+      named = none_named g.A.Amount.ops c.new-order.result (g.P.Pool.limits c.args.pile.now) t c.new-order.ensures;
+      left = ap (λ is. without is t) (sym c.new-order.ensures);
+      room = omega (arith, ap length c.new-order.ensures, open_length t);
     }
 
-pub loop-n-preserved : goal.loop-n-preserved
-loop-n-preserved g c =
+pub offset_bounds-self-inside-bay : goal.offset_bounds-self-inside-bay
+offset_bounds-self-inside-bay g c = scaled_Fits c.in-Some.bay 64 _ c.in-Some.ensures.inside (search rules)
+
+pub push-requires : goal.push-requires
+push-requires g c =
+    let long : length c.loop-bay.self ≡ 64 = sym (ap length c.self.view_is) ∙ c.self.invariant in
+    let more = next_open g.A.Amount.ops (g.P.Pool.limits c.loop-bay.trial) c.loop-bay.self c.in-Some.bay (sym c.in-Some.ensures.bay) in
+    omega (arith, c.loop-bay.invariant.room, more, long)
+
+pub loop-bay-smaller : goal.loop-bay-smaller
+loop-bay-smaller g c =
+    let more = next_open g.A.Amount.ops (g.P.Pool.limits c.loop-bay.trial) c.loop-bay.self c.in-Some.bay (sym c.in-Some.ensures.bay) in
+    rw c.self.view_is (omega (arith, more))
+
+pub loop-bay-preserved : goal.loop-bay-preserved
+loop-bay-preserved g c = rw c.self.view_is (
     let o = g.A.Amount.ops in
-    let all = safe_order o (g.P.Pool.limits c.args.pile.now) c.args.self.now.bays in
-    let n = c.loop-n.n in
+    let ls = g.P.Pool.limits c.loop-bay.trial in
+    let t = c.loop-bay.self in
     let i = c.in-Some.bay in
-    let t = c.loop-n.self.bays in
-    let long : length t ≡ 64 = c.loop-n.self.full in
-    let wide : length c.loop-n.named ≡ 64 = c.loop-n.invariant.0 in
-    let room : n < length c.loop-n.named = omega (arith, wide) in
-    let inside : i < length t = omega (arith, c.in-Some.ensures.inside, long) in (
-      length-set c.loop-n.named n i ∙ wide,
-      one_named o all n i c.loop-n.named (g.P.Pool.limits c.loop-n.trial) (g.P.Pool.limits c.finish.new.pile) t _ c.loop-n-test.true room inside c.in-Some.ensures.bay c.finish.ensures c.loop-n.invariant.1,
-      one_emptied n i c.loop-n.named c.args.self.now.bays t room c.loop-n.invariant.2,
-    )
-
-pub returns : goal.returns
-returns g c =
-    let o = g.A.Amount.ops in
-    let all = safe_order o (g.P.Pool.limits c.args.pile.now) c.args.self.now.bays in
-    let end : c.loop-n.n ≡ 64 = omega arith in
+    let v = c.loop-bay.invariant in
+    let all = safe_order o (g.P.Pool.limits c.args.pile.now) c.args.self.now in
+    let long : length t ≡ 64 = sym (ap length c.self.view_is) ∙ c.self.invariant in
+    let more = next_open o ls t i (sym c.in-Some.ensures.bay) in
+    let inside : i < length t = omega (arith, c.in-Some.ensures.inside, long) in
+    let room : length c.loop-bay.order < length t = omega (arith, v.room, more) in
+    let one : length c.push.new.self ≡ length c.loop-bay.order + 1 = ap length c.push.ensures ∙ length-append c.loop-bay.order (i ∷ []) in
     record {
-      named = full_named o all c.loop-n.n c.loop-n.named (g.P.Pool.limits c.loop-n.trial) c.loop-n.self.bays end c.loop-n.invariant.1;
-      left = c.loop-n.invariant.2 ∙ ap (λ k. without (take k c.loop-n.named) c.args.self.now.bays) end;
-    }
+      named = one_named o all i c.loop-bay.order c.push.new.self ls (g.P.Pool.limits c.finish.new.pile) t c.index-self-bay.result room inside c.in-Some.ensures.bay (c.finish.ensures ∙ ap (λ u. finished o ls (get_or u i c.index-self-bay.result)) c.self.view_is) c.push.ensures v.named;
+      left = ap (λ u. emptied u i) v.left ∙ sym (without_more c.loop-bay.order i c.args.self.now) ∙ ap (λ is. without is c.args.self.now) (sym c.push.ensures);
+      room = omega (arith, v.room, more, one, length-set t i None);
+    })
+
+pub returns-clause-named : goal.returns-clause-named
+returns-clause-named g c =
+    let o = g.A.Amount.ops in
+    let all = safe_order o (g.P.Pool.limits c.args.pile.now) c.args.self.now in
+    all_named o all c.loop-bay.order _ (g.P.Pool.limits c.loop-bay.trial) c.loop-bay.self c.in_default.ensures.bay c.loop-bay.invariant.named

@@ -1,10 +1,6 @@
--- The bays of a search. Assumes nothing.
+-- What a search leaves of its bays. Assumes nothing.
 use Rattle.std.specs.Prelude.{ℕ, List, [], ◌∷◌}
 use Rattle.orders.specs.Sessions.{Bays, emptied}
-use Rattle.search.specs.declared.trial.Trial.{Trial}
-
-abbrev pub seats : {A : Type 0} → Trial A → Bays A
-seats t = t.bays
 
 -- the bays without those that are named
 abbrev pub without : {A : Type 0} → List ℕ → Bays A → Bays A
