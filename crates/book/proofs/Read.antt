@@ -52,10 +52,10 @@ pub fits : (w : ℕ) (c : Bool) → (not (leb w 16) || c) ≡ false → w ≤ 16
 fits w c h = leb-true w 16 (fits_by (leb w 16) c h)
 
 pub ok_err : {X E C : Type 0} {x : X} {e : E} → Ok x ≡ Err e → C
-ok_err h = let z : ◌≡◌ {A = ℕ} 0 1 = cc in absurd (omega arith)
+ok_err h = absurd cc
 
 pub same_err : {X E : Type 0} {d e : E} → ◌≡◌ {A = Result X E} (Err d) (Err e) → d ≡ e
-same_err {d = d} h = ap (λ r. elim r [ Ok _ ↦ d | Err y ↦ y ]) h
+same_err h = cc
 
 known_by : (x y : Bool) → ◌≡◌ {A = Result (Unit {0}) Refusal} (Ok tt) (cond x (Err Shut) (cond y (Err NoBay) (Ok tt))) → (x ≡ false) × (y ≡ false)
 known_by true y e = ok_err e

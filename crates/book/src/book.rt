@@ -10,6 +10,7 @@ use pool::Pool;
 use search::Trial;
 
 // A book over a pile: who is at each bay, with what claim and what holding.
+// A model as the machine's state was tried: a limit of it watches by a function, which has no code. So clauses go by state_of.
 #[derive(Drop)]
 pub struct Book<A, P> {
     pub(crate) table: Table,

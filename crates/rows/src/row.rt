@@ -8,7 +8,7 @@ use archive::Archived;
 use orders::Session;
 
 // A bay is empty, at rest, or moving.
-#[derive(Clone, Copy)]
+#[derive(Clone, Copy, Debug, PartialEq, Eq)]
 pub enum RowState {
     Empty,
     AtRest,

@@ -13,8 +13,8 @@ unreachable-requires g c =
     let n = c.in_ok-count.field-0.count in
     let p = slip_of c.in_ok-count.field-0.slip in
     let t = c.in_ok-count.ensures in
-    let spent = withdraw_granted o g.met.A.Amount.lawful st c.args.bay c.args.amount c.args.sheet.now p n (sym t.answer) in
-    refused_accepted (c.in-Err.ensures.answer ∙ ap (λ s. answer o s (withdraws p)) t.after ∙ spent)
+    let spent = withdraw_granted o g.met.A.Amount.lawful st c.args.bay c.args.amount c.args.sheet.now p n (sym t.served.answer) in
+    refused_accepted (c.in-Err.ensures.served.answer ∙ ap (λ s. answer o s (withdraws p)) t.served.after ∙ spent)
 
 pub returns : goal.returns
 returns g c =
@@ -23,10 +23,10 @@ returns g c =
     let n = c.in_ok-count.field-0.count in
     let p = slip_of c.in_ok-count.field-0.slip in
     let t = c.in_ok-count.ensures in
-    let own = (granted_by o st c.args.bay c.args.amount c.args.sheet.now n p (sym t.answer)).slip in
-    let back = withdraw_undoes o g.met.A.Amount.lawful st c.args.bay c.args.amount c.args.sheet.now p n (sym t.answer) in
+    let own = (granted_by o st c.args.bay c.args.amount c.args.sheet.now n p (sym t.served.answer)).slip in
+    let back = withdraw_undoes o g.met.A.Amount.lawful st c.args.bay c.args.amount c.args.sheet.now p n (sym t.served.answer) in
     record {
-      answer = ap (λ q. accepted (granted n q)) (sym own) ∙ t.answer;
-      after = c.in-Ok.ensures.after ∙ ap (λ s. step o s (withdraws p)) t.after ∙ back;
+      answer = ap (λ q. accepted (granted n q)) (sym own) ∙ t.served.answer;
+      after = c.in-Ok.ensures.served.after ∙ ap (λ s. step o s (withdraws p)) t.served.after ∙ back;
       sheet = t.sheet;
     }
