@@ -18,8 +18,8 @@ impl<A: Archived, P: Pool<A>> Book<A, P> {
     // Asks for a portion. Granted where every open session can still finish with it out: the bay moves, and the order is on the
     // front of the sheet.
     pub fn ask(&mut self, bay: u8, amount: A, sheet: &mut [u8]) -> Result<Grant, Refusal>
-        ensures served { Served A.Amount.ops A.Archived.W A.Archived.decode P.Pool.limits self.old (asks bay amount sheet.old) (of_grant result) self.new }
-        ensures sheet { sheet.new ≡ sheet_after A.Amount.ops (state_of A.Amount.ops A.Archived.W A.Archived.decode P.Pool.limits self.old) (asks bay amount sheet.old) }
+        ensures served { Served A.Archived P.Pool.limits self.old (asks bay amount sheet.old) (of_grant result) self.new }
+        ensures sheet { sheet.new ≡ sheet_after A.Amount.ops (state_of A.Archived P.Pool.limits self.old) (asks bay amount sheet.old) }
     {
         let (next, session) = self.table.sitting::<A>(bay, RowCall::Ask)?;
         let holding = room(session.claim, session.holding, amount).ok_or(Refusal::AboveClaim)?;

@@ -14,7 +14,7 @@ use rows::{Refusal, RowCall, turn};
 impl<A: Archived, P: Pool<A>> Book<A, P> {
     // A session at an empty bay, for a firm's mark, with the most that it may hold.
     pub fn open(&mut self, bay: u8, mark: u8, claim: A) -> Result<(), Refusal>
-        ensures { Served A.Amount.ops A.Archived.W A.Archived.decode P.Pool.limits self.old (opens bay mark claim) (of_done result) self.new }
+        ensures { Served A.Archived P.Pool.limits self.old (opens bay mark claim) (of_done result) self.new }
     {
         self.table.known::<A>(bay)?;
         if mark > 15 {
@@ -37,8 +37,8 @@ impl<A: Archived, P: Pool<A>> Book<A, P> {
 
     // Gives back a part of what the session holds.
     pub fn give(&mut self, bay: u8, amount: A) -> Result<(), Refusal>
-        ensures served { Served A.Amount.ops A.Archived.W A.Archived.decode P.Pool.limits self.old (gives bay amount) (of_done result) self.new }
-        ensures fault { IfErr result (TornAt (torn_give A.Amount.ops (state_of A.Amount.ops A.Archived.W A.Archived.decode P.Pool.limits self.old) bay amount)) }
+        ensures served { Served A.Archived P.Pool.limits self.old (gives bay amount) (of_done result) self.new }
+        ensures fault { IfErr result (TornAt (torn_give A.Amount.ops (state_of A.Archived P.Pool.limits self.old) bay amount)) }
     {
         let (next, session) = self.table.sitting::<A>(bay, RowCall::Give)?;
         let rest = session.holding.minus(amount).ok_or(Refusal::MoreThanHeld)?;
@@ -51,8 +51,8 @@ impl<A: Archived, P: Pool<A>> Book<A, P> {
 
     // Ends a session: all that it holds goes back, and the bay is empty.
     pub fn end(&mut self, bay: u8) -> Result<(), Refusal>
-        ensures served { Served A.Amount.ops A.Archived.W A.Archived.decode P.Pool.limits self.old (ends bay) (of_done result) self.new }
-        ensures fault { IfErr result (TornAt (torn_end A.Amount.ops (state_of A.Amount.ops A.Archived.W A.Archived.decode P.Pool.limits self.old) bay)) }
+        ensures served { Served A.Archived P.Pool.limits self.old (ends bay) (of_done result) self.new }
+        ensures fault { IfErr result (TornAt (torn_end A.Amount.ops (state_of A.Archived P.Pool.limits self.old) bay)) }
     {
         let (next, session) = self.table.sitting::<A>(bay, RowCall::End)?;
         self.pile

@@ -15,7 +15,7 @@ use rows::{Refusal, RowCall};
 impl<A: Archived, P: Pool<A>> Book<A, P> {
     // The portion stays, and the bay is at rest.
     pub fn confirm(&mut self, slip: Slip) -> Result<(), Unspent>
-        ensures served { Served A.Amount.ops A.Archived.W A.Archived.decode P.Pool.limits self.old (confirms (slip_of slip)) (of_spent result) self.new }
+        ensures served { Served A.Archived P.Pool.limits self.old (confirms (slip_of slip)) (of_spent result) self.new }
         ensures slip { HandedBack slip result }
     {
         let call = self.keep_portion(&slip);
@@ -24,9 +24,9 @@ impl<A: Archived, P: Pool<A>> Book<A, P> {
 
     // The portion goes back, and the bay is at rest.
     pub fn withdraw(&mut self, slip: Slip) -> Result<(), Unspent>
-        ensures served { Served A.Amount.ops A.Archived.W A.Archived.decode P.Pool.limits self.old (withdraws (slip_of slip)) (of_spent result) self.new }
+        ensures served { Served A.Archived P.Pool.limits self.old (withdraws (slip_of slip)) (of_spent result) self.new }
         ensures slip { HandedBack slip result }
-        ensures fault { IfErr result (λ u. TornAt (torn_withdraw A.Amount.ops (state_of A.Amount.ops A.Archived.W A.Archived.decode P.Pool.limits self.old) slip.bay) u.refusal) }
+        ensures fault { IfErr result (λ u. TornAt (torn_withdraw A.Amount.ops (state_of A.Archived P.Pool.limits self.old) slip.bay) u.refusal) }
     {
         let call = self.return_portion(&slip);
         slip.spent(call)
@@ -34,7 +34,7 @@ impl<A: Archived, P: Pool<A>> Book<A, P> {
 
     // What a confirm does where its slip is this book's, and its bay moves.
     fn keep_portion(&mut self, slip: &Slip) -> Result<(), Refusal>
-        ensures { Served A.Amount.ops A.Archived.W A.Archived.decode P.Pool.limits self.old (confirms (slip_of slip.now)) (of_done result) self.new }
+        ensures { Served A.Archived P.Pool.limits self.old (confirms (slip_of slip.now)) (of_done result) self.new }
     {
         let next = self.table.spending::<A>(slip, RowCall::Confirm)?;
         self.table.rows[usize::from(slip.bay)].state = next;
@@ -43,8 +43,8 @@ impl<A: Archived, P: Pool<A>> Book<A, P> {
 
     // What a withdrawal does there, where the pile takes the portion back.
     fn return_portion(&mut self, slip: &Slip) -> Result<(), Refusal>
-        ensures served { Served A.Amount.ops A.Archived.W A.Archived.decode P.Pool.limits self.old (withdraws (slip_of slip.now)) (of_done result) self.new }
-        ensures fault { IfErr result (TornAt (torn_withdraw A.Amount.ops (state_of A.Amount.ops A.Archived.W A.Archived.decode P.Pool.limits self.old) slip.now.bay)) }
+        ensures served { Served A.Archived P.Pool.limits self.old (withdraws (slip_of slip.now)) (of_done result) self.new }
+        ensures fault { IfErr result (TornAt (torn_withdraw A.Amount.ops (state_of A.Archived P.Pool.limits self.old) slip.now.bay)) }
     {
         let next = self.table.spending::<A>(slip, RowCall::Withdraw)?;
         let before = self.table.rows[usize::from(slip.bay)];

@@ -39,7 +39,7 @@ pub(crate) fn some_moving(rows: &[Row; 64]) -> bool
 
 // Seats every session at its bay: each row is decoded once.
 pub(crate) fn seat_all<A: Archived>(rows: &[Row; 64], trial: &mut Trial<A>)
-    ensures { trial.new ≡ seen (map (row_of A.Archived.W A.Archived.decode A.Amount.ops.zero) rows.now) }
+    ensures { trial.new ≡ seen (map (row_of A.Archived) rows.now) }
 {
     for (bay, row) in (0..64u8).zip(rows) {
         trial.seat(bay, row.session());

@@ -7,6 +7,7 @@ use Rattle.std.proofs.lemmas.Slice.Zip.{length-zip, get_or-zip}
 use Rattle.std.specs.List.{zip, range_with_len}
 use Rattle.law.specs.Book.{seen, seen_row}
 use Rattle.rows.specs.Rows.{row_of}
+use Rattle.rows.proofs.Bound.{kind_of}
 use Rattle.book.specs.Tables.{no_row}
 use Rattle.book.proofs.Filling.{filled_more, filled_all}
 use Rattle.book.proofs.Read.{seen_length, seen_at}
@@ -14,7 +15,7 @@ use Rattle.book.proofs.table.seat_all.Goals as goal
 
 pub loop-bay-preserved : goal.loop-bay-preserved
 loop-bay-preserved g c =
-    let f = row_of g.A.Archived.W g.A.Archived.decode g.A.Amount.ops.zero in
+    let f = row_of (kind_of g.A.Amount.ops g.A.Archived) in
     let rows = c.args.rows.now in
     let n = length c.loop-bay.yielded in
     let chain = YieldsList-from_zip {s = c.into_iter-bay-iterator.result} (YieldsList-from_range 0 64 64 (cc) refl) (YieldsList-from_slice rows (cc)) in
@@ -39,7 +40,7 @@ loop-bay-preserved g c =
 
 pub returns : goal.returns
 returns g c =
-    let f = row_of g.A.Archived.W g.A.Archived.decode g.A.Amount.ops.zero in
+    let f = row_of (kind_of g.A.Amount.ops g.A.Archived) in
     let rows = c.args.rows.now in
     let n = length c.loop-bay.yielded in
     let chain = YieldsList-from_zip {s = c.into_iter-bay-iterator.result} (YieldsList-from_range 0 64 64 (cc) refl) (YieldsList-from_slice rows (cc)) in
