@@ -13,6 +13,7 @@ use Rattle.law.specs.Book.{Answer, refused, accepted, done, guard, guard_at, Sta
 use Rattle.law.specs.Book as machine
 use Rattle.rows.specs.Cells.{amount_in}
 use Rattle.rows.specs.Effects.{turned}
+use Rattle.rows.specs.Kinds.{Kind}
 use Rattle.rows.specs.Legend.{refusal}
 use Rattle.rows.specs.Rows.{by_state, row_of, session_in}
 use Rattle.rows.specs.declared.cell.Cell.{Cell}
@@ -62,12 +63,15 @@ tall_none (Some q) y e h = some_none e h
 abbrev pub with_row : Table → ℕ → Row → Table
 with_row t i r = record { number = t.number; shut = t.shut; rows = set t.rows i r }
 
-module _ {A : Type 0} (o : Ops A) (w : ℕ) (decode : List ℕ → Option A) (t : Table) (ls : List (Limit A)) where
+module _ {A : Type 0} (kind : Kind A) (t : Table) (ls : List (Limit A)) where
+  abbrev o : Ops A
+  o = kind.ops
+
   abbrev pub state : State A
-  state = state_with w decode o.zero t ls
+  state = state_with kind t ls
 
   abbrev f : Row → machine.Row A
-  f = row_of w decode o.zero
+  f = row_of kind
 
   -- a refusal leaves the state as it was
   pub stays : (c : Call A) (e : Refusal) → refusal e ≡ answer o state c → state ≡ step o state c
@@ -75,72 +79,72 @@ module _ {A : Type 0} (o : Ops A) (w : ℕ) (decode : List ℕ → Option A) (t 
 
   -- where no slip is out, the bay does not move
   pub calm_at : (i : ℕ) → is_some (slip_bay state.rows) ≡ false → is_moving (f (row_in t i)) ≡ false
-  calm_at i z = ap is_moving (sym (row_is w decode o.zero t.rows i)) ∙ calm state.rows i z
+  calm_at i z = ap is_moving (sym (row_is kind t.rows i)) ∙ calm state.rows i z
 
   -- a row and a pile are changed
   pub changes : (c : Call A) (r : Reply) (i : ℕ) (new : Row) (pile : List (Limit A)) (to : machine.Row A) → accepted r ≡ answer o state c → f new ≡ to
       → (record { shut = state.shut; number = state.number; pile = pile; rows = set state.rows i to }) ≡ moved o state c (accepted r)
-      → state_with w decode o.zero (with_row t i new) pile ≡ step o state c
+      → state_with kind (with_row t i new) pile ≡ step o state c
   changes c r i new pile to h e m =
       let F : List (machine.Row A) → State A = λ rows. record { shut = state.shut; number = t.number; pile = pile; rows = rows } in
       ap F (map-set f t.rows i new) ∙ ap (λ x. F (set state.rows i x)) e ∙ m ∙ ap (moved o state c) h
 
   -- a row by its tag
-  pub by_tag : (r : Row) (n : RowState) → r.state ≡ n → f r ≡ by_state n (session_in w decode o.zero r) (amount_in w decode o.zero r.portion)
-  by_tag r n e = ap (λ t. by_state t (session_in w decode o.zero r) (amount_in w decode o.zero r.portion)) e
+  pub by_tag : (r : Row) (n : RowState) → r.state ≡ n → f r ≡ by_state n (session_in kind r) (amount_in kind r.portion)
+  by_tag r n e = ap (λ t. by_state t (session_in kind r) (amount_in kind r.portion)) e
 
   -- a row with another holding keeps its session's mark and claim
-  pub holds_now : (i : ℕ) (new : Row) (h : A) (s : Session A) → new.mark ≡ (row_in t i).mark → new.claim ≡ (row_in t i).claim → amount_in w decode o.zero new.holding ≡ h → session_in w decode o.zero (row_in t i) ≡ s
-      → session_in w decode o.zero new ≡ with_holding s h
+  pub holds_now : (i : ℕ) (new : Row) (h : A) (s : Session A) → new.mark ≡ (row_in t i).mark → new.claim ≡ (row_in t i).claim → amount_in kind new.holding ≡ h → session_in kind (row_in t i) ≡ s
+      → session_in kind new ≡ with_holding s h
   holds_now i new h s p q e same =
-      let F : ℕ → Cell → A → Session A = λ m c x. record { mark = m; claim = amount_in w decode o.zero c; holding = x } in
-      ap (λ m. F m new.claim (amount_in w decode o.zero new.holding)) p ∙ ap (λ c. F (row_in t i).mark c (amount_in w decode o.zero new.holding)) q ∙ ap (F (row_in t i).mark (row_in t i).claim) e ∙ ap (λ t. with_holding t h) same
+      let F : ℕ → Cell → A → Session A = λ m c x. record { mark = m; claim = amount_in kind c; holding = x } in
+      ap (λ m. F m new.claim (amount_in kind new.holding)) p ∙ ap (λ c. F (row_in t i).mark c (amount_in kind new.holding)) q ∙ ap (F (row_in t i).mark (row_in t i).claim) e ∙ ap (λ t. with_holding t h) same
 
   -- such a row at rest
-  pub rests_now : (i : ℕ) (new : Row) (h : A) (s : Session A) → new.state ≡ AtRest → new.mark ≡ (row_in t i).mark → new.claim ≡ (row_in t i).claim → amount_in w decode o.zero new.holding ≡ h → session_in w decode o.zero (row_in t i) ≡ s
+  pub rests_now : (i : ℕ) (new : Row) (h : A) (s : Session A) → new.state ≡ AtRest → new.mark ≡ (row_in t i).mark → new.claim ≡ (row_in t i).claim → amount_in kind new.holding ≡ h → session_in kind (row_in t i) ≡ s
       → f new ≡ machine.rest (with_holding s h)
   rests_now i new h s n p q e same = by_tag new AtRest n ∙ ap machine.rest (holds_now i new h s p q e same)
 
   -- and moving
-  pub moves_now : (i : ℕ) (new : Row) (h a : A) (s : Session A) → new.state ≡ Moving → new.mark ≡ (row_in t i).mark → new.claim ≡ (row_in t i).claim → amount_in w decode o.zero new.holding ≡ h → amount_in w decode o.zero new.portion ≡ a
-      → session_in w decode o.zero (row_in t i) ≡ s → f new ≡ machine.moving (with_holding s h) a
+  pub moves_now : (i : ℕ) (new : Row) (h a : A) (s : Session A) → new.state ≡ Moving → new.mark ≡ (row_in t i).mark → new.claim ≡ (row_in t i).claim → amount_in kind new.holding ≡ h → amount_in kind new.portion ≡ a
+      → session_in kind (row_in t i) ≡ s → f new ≡ machine.moving (with_holding s h) a
   moves_now i new h a s n p q e k same = by_tag new Moving n ∙ ap₂ machine.moving (holds_now i new h s p q e same) k
 
   -- the pile is another with the same limits
-  pub same_limits : (pile : List (Limit A)) → pile ≡ ls → state_with w decode o.zero t pile ≡ state
-  same_limits pile e = ap (state_with w decode o.zero t) e
+  pub same_limits : (pile : List (Limit A)) → pile ≡ ls → state_with kind t pile ≡ state
+  same_limits pile e = ap (state_with kind t) e
 
   module _ (call : RowCall) (n : RowState) (p : turned Empty call ≡ Err refusals.Empty) (q : turned AtRest call ≡ Ok n) (i : ℕ) where
     abbrev at : Row
     at = row_in t i
 
     abbrev held : Session A
-    held = session_in w decode o.zero at
+    held = session_in kind at
 
     abbrev moved_now : A
-    moved_now = amount_in w decode o.zero at.portion
+    moved_now = amount_in kind at.portion
 
     calm_here : is_some (slip_bay state.rows) ≡ false → is_moving (f at) ≡ false
     calm_here = calm_at i
 
-    pub sitting_refused : (e : Refusal) (k : Option (Session A) → Answer) → k None ≡ refused 6 None → Err e ≡ sitting w decode o.zero t i call
+    pub sitting_refused : (e : Refusal) (k : Option (Session A) → Answer) → k None ≡ refused 6 None → Err e ≡ sitting kind t i call
         → refusal e ≡ guard state.shut 1 (guard (leb 64 i) 2 (guard (is_some (slip_bay state.rows)) 4 (k (seen_row (row state.rows i)))))
     sitting_refused e k k6 h =
         refused_by call n p q at.state held moved_now state.shut (leb 64 i) (is_some (slip_bay state.rows)) calm_here e k k6 h
-        ∙ ap (λ x. guard state.shut 1 (guard (leb 64 i) 2 (guard (is_some (slip_bay state.rows)) 4 (k (seen_row x))))) (sym (row_is w decode o.zero t.rows i))
+        ∙ ap (λ x. guard state.shut 1 (guard (leb 64 i) 2 (guard (is_some (slip_bay state.rows)) 4 (k (seen_row x))))) (sym (row_is kind t.rows i))
 
     -- the session sits at the bay, and nothing moves
     pub record Sat (next : RowState) (s : Session A) : Type 0 where
       pub opened : state.shut ≡ false
       pub at_rest : row state.rows i ≡ machine.rest s
       pub turns : next ≡ n
-      pub same : session_in w decode o.zero at ≡ s
+      pub same : session_in kind at ≡ s
       pub through : (k : Option (Session A) → Answer) → guard state.shut 1 (guard (leb 64 i) 2 (guard (is_some (slip_bay state.rows)) 4 (k (seen_row (row state.rows i))))) ≡ k (Some s)
 
-    pub sitting_ok : (next : RowState) (s : Session A) → Ok (next, s) ≡ sitting w decode o.zero t i call → Sat next s
+    pub sitting_ok : (next : RowState) (s : Session A) → Ok (next, s) ≡ sitting kind t i call → Sat next s
     sitting_ok next s h =
         let x = ok_by call n p q at.state held moved_now state.shut (leb 64 i) (is_some (slip_bay state.rows)) calm_here next s h in
-        let rests : row state.rows i ≡ machine.rest s = row_is w decode o.zero t.rows i ∙ x.at_rest in
+        let rests : row state.rows i ≡ machine.rest s = row_is kind t.rows i ∙ x.at_rest in
         record {
           opened = x.opened;
           at_rest = rests;
@@ -154,7 +158,7 @@ module _ {A : Type 0} (o : Ops A) (w : ℕ) (decode : List ℕ → Option A) (t 
   open_through i m c e low free =
       let k = known_ok state.shut i e in
       let n : leb 16 m ≡ false = lt-leb 16 m (omega arith) in
-      rw (k.0, k.1, n, free) (ap (open_answer o state m c) (row_is w decode o.zero t.rows i))
+      rw (k.0, k.1, n, free) (ap (open_answer o state m c) (row_is kind t.rows i))
 
   pub slip_stops : (i m : ℕ) (c : A) → Ok tt ≡ known state.shut i → m ≤ 15 → is_some (slip_bay state.rows) ≡ true → refusal refusals.Moving ≡ answer o state (opens i m c)
   slip_stops i m c e low out =
@@ -169,16 +173,16 @@ module _ {A : Type 0} (o : Ops A) (w : ℕ) (decode : List ℕ → Option A) (t 
     marked = row_in t slip.bay
 
     abbrev owner : Session A
-    owner = session_in w decode o.zero marked
+    owner = session_in kind marked
 
     abbrev portion : A
-    portion = amount_in w decode o.zero marked.portion
+    portion = amount_in kind marked.portion
 
-    pub spending_refused : (e : Refusal) (k : machine.Row A → Answer) → k machine.empty ≡ refused 13 None → ((s : Session A) → k (machine.rest s) ≡ refused 13 None) → Err e ≡ spending w t slip call
+    pub spending_refused : (e : Refusal) (k : machine.Row A → Answer) → k machine.empty ≡ refused 13 None → ((s : Session A) → k (machine.rest s) ≡ refused 13 None) → Err e ≡ spending kind.width t slip call
         → refusal e ≡ guard state.shut 1 (guard (not (eqb slip.book state.number)) 13 (k (row state.rows slip.bay)))
     spending_refused e k k1 k2 h =
         unspent_by call p q n marked.state owner portion state.shut (not (eqb slip.book t.number)) (leb 64 slip.bay) (λ z. ap (λ r. r.state) (past (leb-true 64 slip.bay z))) e k k1 k2 h
-        ∙ ap (λ x. guard state.shut 1 (guard (not (eqb slip.book state.number)) 13 (k x))) (sym (row_is w decode o.zero t.rows slip.bay))
+        ∙ ap (λ x. guard state.shut 1 (guard (not (eqb slip.book state.number)) 13 (k x))) (sym (row_is kind t.rows slip.bay))
 
     -- the slip's bay moves
     pub record Spent (next : RowState) : Type 0 where
@@ -188,8 +192,8 @@ module _ {A : Type 0} (o : Ops A) (w : ℕ) (decode : List ℕ → Option A) (t 
       pub turns : next ≡ AtRest
       pub through : (k : machine.Row A → Answer) → guard state.shut 1 (guard (not (eqb slip.book state.number)) 13 (k (row state.rows slip.bay))) ≡ k (machine.moving owner portion)
 
-    pub spending_ok : (next : RowState) → Ok next ≡ spending w t slip call → Spent next
+    pub spending_ok : (next : RowState) → Ok next ≡ spending kind.width t slip call → Spent next
     spending_ok next h =
         let x = spends_by call p q n marked.state owner portion state.shut (not (eqb slip.book t.number)) (leb 64 slip.bay) next h in
-        let moves = row_is w decode o.zero t.rows slip.bay ∙ by_tag marked Moving x.moves_now in
+        let moves = row_is kind t.rows slip.bay ∙ by_tag marked Moving x.moves_now in
         record { opened = x.opened; low = x.low; moves_now = moves; turns = x.turns; through = λ k. rw (x.opened, x.own, moves) }

@@ -1,9 +1,10 @@
 -- What a call meets before it asks the pile is no refusal 14.
-use Rattle.std.proofs.Common.{◌≡◌, ℕ, Bool, true, false, cond, List, Some, None, Ok, Err, Option, Result, refl, ap, ◌∙◌, is_some}
+use Rattle.std.proofs.Common.{◌≡◌, ℕ, Bool, true, false, cond, Some, None, Ok, Err, Option, Result, refl, ap, ◌∙◌, is_some}
 use Rattle.std.specs.Prelude.{nat_le}
 use Rattle.orders.specs.Sessions.{Session}
 use Rattle.law.specs.Book.{slip_bay, seen_row}
 use Rattle.rows.specs.Effects.{turned}
+use Rattle.rows.specs.Kinds.{Kind}
 use Rattle.rows.specs.Rows.{row_of}
 use Rattle.rows.specs.declared.effect.RowCall.{RowCall}
 use Rattle.rows.specs.declared.effect.RowCall.TheVariants.{Open, Ask, Confirm, Withdraw, Give, End}
@@ -71,10 +72,10 @@ cut_untorn : {X : Type 0} (b : Bool) (e : Refusal) (r : Result X Refusal) → to
 cut_untorn true e r h k = h
 cut_untorn false e r h k = k
 
-pub sitting_untorn : {A : Type 0} (w : ℕ) (decode : List ℕ → Option A) (zero : A) (t : Table) (i : ℕ) (call : RowCall) (e : Refusal) (place : Option ℕ) → Err e ≡ sitting w decode zero t i call → TornAt place e
-sitting_untorn w decode zero t i call e place h =
-    let last = sat_untorn (turned (row_in t i).state call) (seen_row (row_of w decode zero (row_in t i))) (turned_untorn (row_in t i).state call) in
-    let all = cut_untorn (is_shut w t) refusals.Shut _ refl (cut_untorn (nat_le 64 i) refusals.NoBay _ refl (cut_untorn (is_some (slip_bay (rows_in w decode zero t))) refusals.Moving _ refl last)) in
+pub sitting_untorn : {A : Type 0} (kind : Kind A) (t : Table) (i : ℕ) (call : RowCall) (e : Refusal) (place : Option ℕ) → Err e ≡ sitting kind t i call → TornAt place e
+sitting_untorn kind t i call e place h =
+    let last = sat_untorn (turned (row_in t i).state call) (seen_row (row_of kind (row_in t i))) (turned_untorn (row_in t i).state call) in
+    let all = cut_untorn (is_shut kind.width t) refusals.Shut _ refl (cut_untorn (nat_le 64 i) refusals.NoBay _ refl (cut_untorn (is_some (slip_bay (rows_in kind t))) refusals.Moving _ refl last)) in
     untorn place e (ap refused_torn h ∙ all)
 
 pub spending_untorn : (w : ℕ) (t : Table) (slip : Slip) (call : RowCall) (e : Refusal) (place : Option ℕ) → Err e ≡ spending w t slip call → TornAt place e

@@ -19,7 +19,7 @@ impl Table {
 
     // Whether a slip of this book is out.
     pub(crate) fn slip_out<A: Archived>(&self) -> bool
-        ensures { result ≡ is_some (slip_bay (rows_in A.Archived.width A.Archived.decode A.Amount.ops.zero self.now)) }
+        ensures { result ≡ is_some (slip_bay (rows_in A.Archived self.now)) }
     {
         some_moving(&self.rows)
     }
@@ -43,7 +43,7 @@ impl Table {
         bay: u8,
         call: RowCall,
     ) -> Result<(RowState, Session<A>), Refusal>
-        ensures { result ≡ sitting A.Archived.width A.Archived.decode A.Amount.ops.zero self.now bay call }
+        ensures { result ≡ sitting A.Archived self.now bay call }
     {
         self.known::<A>(bay)?;
         if self.slip_out::<A>() {

@@ -29,9 +29,9 @@ impl<A: Archived, P: Pool<A>> Book<A, P> {
     // Asks for a portion. Granted where every open session can still finish with it out: the bay moves, and the order is on the
     // front of the sheet.
     pub fn ask(&mut self, bay: u8, amount: A, sheet: &mut [u8]) -> Result<Grant, Refusal>
-        ensures answer { of_grant result ≡ answer A.Amount.ops (state_of A.Amount.ops A.Archived.width A.Archived.decode P.Pool.limits self.old) (asks bay amount sheet.old) }
-        ensures after { state_of A.Amount.ops A.Archived.width A.Archived.decode P.Pool.limits self.new ≡ step A.Amount.ops (state_of A.Amount.ops A.Archived.width A.Archived.decode P.Pool.limits self.old) (asks bay amount sheet.old) }
-        ensures sheet { sheet.new ≡ sheet_after A.Amount.ops (state_of A.Amount.ops A.Archived.width A.Archived.decode P.Pool.limits self.old) (asks bay amount sheet.old) }
+        ensures answer { of_grant result ≡ answer A.Amount.ops (state_of A.Archived P.Pool.limits self.old) (asks bay amount sheet.old) }
+        ensures after { state_of A.Archived P.Pool.limits self.new ≡ step A.Amount.ops (state_of A.Archived P.Pool.limits self.old) (asks bay amount sheet.old) }
+        ensures sheet { sheet.new ≡ sheet_after A.Amount.ops (state_of A.Archived P.Pool.limits self.old) (asks bay amount sheet.old) }
     {
         let (next, session) = self.table.sitting::<A>(bay, RowCall::Ask)?;
         let Some(holding) = grown(session, amount) else {

@@ -21,8 +21,8 @@ pub struct Book<A, P> {
 impl<A: Archived, P: Pool<A>> Book<A, P> {
     // A book with every bay empty; shut where the pile is not idle or the kind is wider than 16 bytes.
     pub fn new(number: u32, pile: P) -> Book<A, P>
-        ensures made { state_of A.Amount.ops A.Archived.width A.Archived.decode P.Pool.limits result ≡ new_book A.Amount.ops A.Archived.width number (P.Pool.limits pile) }
-        ensures law { Days A.Amount.ops A.Archived.width (P.Pool.limits pile) (state_of A.Amount.ops A.Archived.width A.Archived.decode P.Pool.limits result) }
+        ensures made { state_of A.Archived P.Pool.limits result ≡ new_book A.Amount.ops A.Archived.width number (P.Pool.limits pile) }
+        ensures law { Days A.Amount.ops A.Archived.width (P.Pool.limits pile) (state_of A.Archived P.Pool.limits result) }
     {
         Book {
             table: Table::vacant(number, !pile.idle()),

@@ -15,7 +15,7 @@ use rows::{Refusal, Row};
 
 // Whether an open session holds anything.
 fn some_holding<A: Archived>(rows: &[Row; 64]) -> bool
-    ensures { result ≡ is_some (lowest_place (holds_any A.Amount.ops) (seen (map (row_of A.Archived.width A.Archived.decode A.Amount.ops.zero) rows.now))) }
+    ensures { result ≡ is_some (lowest_place (holds_any A.Amount.ops) (seen (map (row_of A.Archived) rows.now))) }
 {
     for i in 0..64usize {
         if holds_any::<A>(rows[i].session()) {
@@ -37,9 +37,9 @@ fn holds_any<A: Amount>(bay: Option<Session<A>>) -> bool
 impl<A: Archived, P: Pool<A>> Book<A, P> {
     // The order in which every open session can finish, on the front of the sheet; answers how many bays it has.
     pub fn order(&mut self, sheet: &mut [u8]) -> Result<usize, Refusal>
-        ensures answer { of_order result ≡ answer A.Amount.ops (state_of A.Amount.ops A.Archived.width A.Archived.decode P.Pool.limits self.old) (orders sheet.old) }
-        ensures after { state_of A.Amount.ops A.Archived.width A.Archived.decode P.Pool.limits self.new ≡ step A.Amount.ops (state_of A.Amount.ops A.Archived.width A.Archived.decode P.Pool.limits self.old) (orders sheet.old) }
-        ensures sheet { sheet.new ≡ sheet_after A.Amount.ops (state_of A.Amount.ops A.Archived.width A.Archived.decode P.Pool.limits self.old) (orders sheet.old) }
+        ensures answer { of_order result ≡ answer A.Amount.ops (state_of A.Archived P.Pool.limits self.old) (orders sheet.old) }
+        ensures after { state_of A.Archived P.Pool.limits self.new ≡ step A.Amount.ops (state_of A.Archived P.Pool.limits self.old) (orders sheet.old) }
+        ensures sheet { sheet.new ≡ sheet_after A.Amount.ops (state_of A.Archived P.Pool.limits self.old) (orders sheet.old) }
     {
         if self.table.is_shut::<A>() {
             return Err(Refusal::Shut);
@@ -54,7 +54,7 @@ impl<A: Archived, P: Pool<A>> Book<A, P> {
 
     // Whether no open session holds anything.
     pub fn all_in(&self) -> Result<bool, Refusal>
-        ensures { of_question result ≡ answer A.Amount.ops (state_of A.Amount.ops A.Archived.width A.Archived.decode P.Pool.limits self.now) all_in }
+        ensures { of_question result ≡ answer A.Amount.ops (state_of A.Archived P.Pool.limits self.now) all_in }
     {
         if self.table.is_shut::<A>() {
             return Err(Refusal::Shut);

@@ -13,8 +13,8 @@ use rows::{Refusal, RowCall, turn};
 impl<A: Archived, P: Pool<A>> Book<A, P> {
     // A session at an empty bay, for a firm's mark, with the most that it may hold.
     pub fn open(&mut self, bay: u8, mark: u8, claim: A) -> Result<(), Refusal>
-        ensures answer { of_done result ≡ answer A.Amount.ops (state_of A.Amount.ops A.Archived.width A.Archived.decode P.Pool.limits self.old) (opens bay mark claim) }
-        ensures after { state_of A.Amount.ops A.Archived.width A.Archived.decode P.Pool.limits self.new ≡ step A.Amount.ops (state_of A.Amount.ops A.Archived.width A.Archived.decode P.Pool.limits self.old) (opens bay mark claim) }
+        ensures answer { of_done result ≡ answer A.Amount.ops (state_of A.Archived P.Pool.limits self.old) (opens bay mark claim) }
+        ensures after { state_of A.Archived P.Pool.limits self.new ≡ step A.Amount.ops (state_of A.Archived P.Pool.limits self.old) (opens bay mark claim) }
     {
         self.table.known::<A>(bay)?;
         if mark > 15 {
@@ -37,9 +37,9 @@ impl<A: Archived, P: Pool<A>> Book<A, P> {
 
     // Gives back a part of what the session holds.
     pub fn give(&mut self, bay: u8, amount: A) -> Result<(), Refusal>
-        ensures answer { of_done result ≡ answer A.Amount.ops (state_of A.Amount.ops A.Archived.width A.Archived.decode P.Pool.limits self.old) (gives bay amount) }
-        ensures after { state_of A.Amount.ops A.Archived.width A.Archived.decode P.Pool.limits self.new ≡ step A.Amount.ops (state_of A.Amount.ops A.Archived.width A.Archived.decode P.Pool.limits self.old) (gives bay amount) }
-        ensures fault { IfErr result (TornAt (torn_give A.Amount.ops (state_of A.Amount.ops A.Archived.width A.Archived.decode P.Pool.limits self.old) bay amount)) }
+        ensures answer { of_done result ≡ answer A.Amount.ops (state_of A.Archived P.Pool.limits self.old) (gives bay amount) }
+        ensures after { state_of A.Archived P.Pool.limits self.new ≡ step A.Amount.ops (state_of A.Archived P.Pool.limits self.old) (gives bay amount) }
+        ensures fault { IfErr result (TornAt (torn_give A.Amount.ops (state_of A.Archived P.Pool.limits self.old) bay amount)) }
     {
         let (next, session) = self.table.sitting::<A>(bay, RowCall::Give)?;
         let Some(rest) = session.holding.minus(amount) else {
@@ -58,9 +58,9 @@ impl<A: Archived, P: Pool<A>> Book<A, P> {
 
     // Ends a session: all that it holds goes back, and the bay is empty.
     pub fn end(&mut self, bay: u8) -> Result<(), Refusal>
-        ensures answer { of_done result ≡ answer A.Amount.ops (state_of A.Amount.ops A.Archived.width A.Archived.decode P.Pool.limits self.old) (ends bay) }
-        ensures after { state_of A.Amount.ops A.Archived.width A.Archived.decode P.Pool.limits self.new ≡ step A.Amount.ops (state_of A.Amount.ops A.Archived.width A.Archived.decode P.Pool.limits self.old) (ends bay) }
-        ensures fault { IfErr result (TornAt (torn_end A.Amount.ops (state_of A.Amount.ops A.Archived.width A.Archived.decode P.Pool.limits self.old) bay)) }
+        ensures answer { of_done result ≡ answer A.Amount.ops (state_of A.Archived P.Pool.limits self.old) (ends bay) }
+        ensures after { state_of A.Archived P.Pool.limits self.new ≡ step A.Amount.ops (state_of A.Archived P.Pool.limits self.old) (ends bay) }
+        ensures fault { IfErr result (TornAt (torn_end A.Amount.ops (state_of A.Archived P.Pool.limits self.old) bay)) }
     {
         let (next, session) = self.table.sitting::<A>(bay, RowCall::End)?;
         match self.pile.give(session.mark, session.holding) {

@@ -14,8 +14,8 @@ use rows::{Refusal, RowCall};
 impl<A: Archived, P: Pool<A>> Book<A, P> {
     // The portion stays, and the bay is at rest.
     pub fn confirm(&mut self, slip: Slip) -> Result<(), Unspent>
-        ensures answer { of_spent result ≡ answer A.Amount.ops (state_of A.Amount.ops A.Archived.width A.Archived.decode P.Pool.limits self.old) (confirms (slip_of slip)) }
-        ensures after { state_of A.Amount.ops A.Archived.width A.Archived.decode P.Pool.limits self.new ≡ step A.Amount.ops (state_of A.Amount.ops A.Archived.width A.Archived.decode P.Pool.limits self.old) (confirms (slip_of slip)) }
+        ensures answer { of_spent result ≡ answer A.Amount.ops (state_of A.Archived P.Pool.limits self.old) (confirms (slip_of slip)) }
+        ensures after { state_of A.Archived P.Pool.limits self.new ≡ step A.Amount.ops (state_of A.Archived P.Pool.limits self.old) (confirms (slip_of slip)) }
         ensures slip { HandedBack slip result }
     {
         match self.table.spending::<A>(&slip, RowCall::Confirm) {
@@ -30,10 +30,10 @@ impl<A: Archived, P: Pool<A>> Book<A, P> {
 
     // The portion goes back, and the bay is at rest.
     pub fn withdraw(&mut self, slip: Slip) -> Result<(), Unspent>
-        ensures answer { of_spent result ≡ answer A.Amount.ops (state_of A.Amount.ops A.Archived.width A.Archived.decode P.Pool.limits self.old) (withdraws (slip_of slip)) }
-        ensures after { state_of A.Amount.ops A.Archived.width A.Archived.decode P.Pool.limits self.new ≡ step A.Amount.ops (state_of A.Amount.ops A.Archived.width A.Archived.decode P.Pool.limits self.old) (withdraws (slip_of slip)) }
+        ensures answer { of_spent result ≡ answer A.Amount.ops (state_of A.Archived P.Pool.limits self.old) (withdraws (slip_of slip)) }
+        ensures after { state_of A.Archived P.Pool.limits self.new ≡ step A.Amount.ops (state_of A.Archived P.Pool.limits self.old) (withdraws (slip_of slip)) }
         ensures slip { HandedBack slip result }
-        ensures fault { IfErr result (λ u. TornAt (torn_withdraw A.Amount.ops (state_of A.Amount.ops A.Archived.width A.Archived.decode P.Pool.limits self.old) slip.bay) u.refusal) }
+        ensures fault { IfErr result (λ u. TornAt (torn_withdraw A.Amount.ops (state_of A.Archived P.Pool.limits self.old) slip.bay) u.refusal) }
     {
         match self.table.spending::<A>(&slip, RowCall::Withdraw) {
             Err(refusal) => Err(Unspent { refusal, slip }),

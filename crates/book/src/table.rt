@@ -2,7 +2,6 @@ ghost use Rattle.std.specs.Prelude.{◌≡◌, ◌≤◌, map, replicate, is_som
 ghost use Rattle.pool.specs.Limits.{lowest_place};
 ghost use Rattle.law.specs.Book.{seen};
 ghost use Rattle.rows.specs.Rows.{vacant, row_of};
-ghost use Rattle.search.specs.Seats.{seats};
 ghost use Rattle.book.specs.Tables.{no_row, moving_state, moves};
 
 use amount::Amount;
@@ -56,7 +55,7 @@ pub(crate) fn some_moving(rows: &[Row; 64]) -> bool
 
 // Seats every session at its bay: each row is decoded once.
 pub(crate) fn seat_all<A: Archived>(rows: &[Row; 64], trial: &mut Trial<A>)
-    ensures { seats trial.new ≡ seen (map (row_of A.Archived.width A.Archived.decode A.Amount.ops.zero) rows.now) }
+    ensures { trial.new ≡ seen (map (row_of A.Archived) rows.now) }
 {
     for bay in 0..64u8 {
         trial.seat(bay, rows[bay as usize].session());

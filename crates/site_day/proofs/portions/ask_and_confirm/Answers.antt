@@ -2,6 +2,7 @@ use Rattle.std.proofs.Common.{sym, ap, ◌∙◌}
 use Rattle.law.proofs.Rows.{refused_accepted}
 use Rattle.law.specs.Book.{accepted, granted, asks, confirms, answer, step}
 use Rattle.law.proofs.Spendable.{granted_by, confirm_granted}
+use Rattle.rows.proofs.Bound.{kind_of}
 use Rattle.book.specs.Books.{state_of}
 use Rattle.book.specs.Replies.{slip_of}
 use Rattle.site_day.proofs.portions.ask_and_confirm.Goals as goal
@@ -9,7 +10,7 @@ use Rattle.site_day.proofs.portions.ask_and_confirm.Goals as goal
 pub unreachable-requires : goal.unreachable-requires
 unreachable-requires g c =
     let o = g.A.Amount.ops in
-    let st = state_of o g.A.Archived.width g.A.Archived.decode g.P.Pool.limits c.args.book.now in
+    let st = state_of (kind_of g.A.Amount.ops g.A.Archived) g.P.Pool.limits c.args.book.now in
     let n = c.in_ok-count.field-0.count in
     let p = slip_of c.in_ok-count.field-0.slip in
     let t = c.in_ok-count.ensures in
@@ -19,7 +20,7 @@ unreachable-requires g c =
 pub returns : goal.returns
 returns g c =
     let o = g.A.Amount.ops in
-    let st = state_of o g.A.Archived.width g.A.Archived.decode g.P.Pool.limits c.args.book.now in
+    let st = state_of (kind_of g.A.Amount.ops g.A.Archived) g.P.Pool.limits c.args.book.now in
     let n = c.in_ok-count.field-0.count in
     let p = slip_of c.in_ok-count.field-0.slip in
     let t = c.in_ok-count.ensures in
