@@ -1,5 +1,5 @@
 -- The machine's rows, read off the book's.
-use Rattle.std.proofs.Common.{◌≡◌, ℕ, ◌+◌, ◌≤◌, Bool, true, false, cond, not, ◌||◌, leb, List, [], ◌∷◌, map, length, get_or, is_some, Some, None, Ok, Err, Option, Result, sym, refl, ap, ◌∙◌, ap₂, arith}
+use Rattle.std.proofs.Common.{◌≡◌, ℕ, ◌+◌, ◌≤◌, Bool, true, false, cond, not, ◌||◌, leb, List, [], ◌∷◌, map, length, get_or, is_some, Some, None, Ok, Err, Option, Result, sym, refl, ap, ◌∙◌, ap₂}
 use lib.ListN.{length-map, get_or-map}
 use Rattle.std.proofs.lemmas.Bool.{leb-true}
 use Rattle.amount.specs.Arithmetic.{Ops, bind}

@@ -1,4 +1,4 @@
-use Rattle.std.proofs.Common.{◌≡◌, refl}
+use Rattle.std.proofs.Common.{refl}
 use Rattle.std.proofs.lemmas.Result.{err_from_is_err_and}
 use Rattle.law.specs.Book.{ordered}
 use Rattle.rows.specs.declared.refusal.Refusal.TheVariants.{PutOff}

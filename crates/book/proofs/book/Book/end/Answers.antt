@@ -1,4 +1,4 @@
-use Rattle.std.proofs.Common.{◌≡◌, List, set, sym, refl, ap, ◌∙◌, rules, of_calls}
+use Rattle.std.proofs.Common.{List, set, sym, refl, ap, ◌∙◌, rules, of_calls}
 use Rattle.std.proofs.lemmas.Result.{err_from_is_err_and}
 use Rattle.pool.specs.Limits.{Limit, told_place}
 use Rattle.law.specs.Book.{State, seen_row, ends, end_answer, give_back}

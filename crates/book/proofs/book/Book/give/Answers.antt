@@ -1,12 +1,10 @@
-use Rattle.std.proofs.Common.{◌≡◌, Some, Ok, is_some, not, List, set, sym, refl, ap, ap₂, ◌∙◌, rules, of_calls}
+use Rattle.std.proofs.Common.{◌≡◌, List, set, sym, refl, ap, ap₂, ◌∙◌, rules, of_calls}
 use Rattle.std.proofs.lemmas.Result.{err_from_is_err_and}
-use Rattle.std.specs.Option.{ok_or}
-use Rattle.pool.specs.Limits.{Limit, told_place, torn_place, given_back}
+use Rattle.pool.specs.Limits.{Limit, told_place, given_back}
 use Rattle.orders.specs.Sessions.{Session, with_holding}
 use Rattle.law.specs.Book.{State, accepted, done, guard, seen_row, gives, give_answer, gave, with_mark, answer}
 use Rattle.law.specs.Book as machine
 use Rattle.rows.proofs.Cells.{reads_written}
-use Rattle.rows.specs.Legend.{refusal}
 use Rattle.rows.specs.declared.effect.RowCall.TheVariants.{Give}
 use Rattle.rows.specs.declared.refusal.Refusal.TheVariants.{MoreThanHeld}
 use Rattle.rows.specs.declared.row.RowState.TheVariants.{AtRest}

@@ -1,7 +1,7 @@
-use Rattle.std.proofs.Common.{◌≡◌, ℕ, List, set, unwrap_or, sym, refl, ap, ap₂, ◌∙◌, rules, of_calls}
+use Rattle.std.proofs.Common.{◌≡◌, List, set, unwrap_or, sym, refl, ap, ap₂, ◌∙◌, rules, of_calls}
 use Rattle.std.proofs.lemmas.Result.{err_from_is_err_and}
-use Rattle.pool.specs.Limits.{Limit, told_place, torn_place, given_back}
-use Rattle.orders.specs.Sessions.{Session, with_holding}
+use Rattle.pool.specs.Limits.{Limit, told_place}
+use Rattle.orders.specs.Sessions.{with_holding}
 use Rattle.law.specs.Book.{State, accepted, done, guard, row, withdraws, withdraw_answer, withdrawn, give_back, answer}
 use Rattle.law.specs.Book as machine
 use Rattle.rows.proofs.Cells.{reads_written}
@@ -9,7 +9,7 @@ use Rattle.rows.specs.Cells.{amount_in}
 use Rattle.rows.specs.Rows.{session_in}
 use Rattle.rows.specs.declared.effect.RowCall.TheVariants.{Withdraw}
 use Rattle.rows.proofs.Bound.{kind_of}
-use Rattle.book.specs.Faults.{torn_portion, torn_withdraw}
+use Rattle.book.specs.Faults.{torn_portion}
 use Rattle.book.specs.Replies.{slip_of}
 use Rattle.book.specs.Tables.{row_in}
 use Rattle.book.proofs.Read.{fits}
