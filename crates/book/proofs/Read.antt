@@ -1,5 +1,5 @@
 -- The machine's rows, read off the book's.
-use Rattle.std.proofs.Common.{◌≡◌, ℕ, ◌+◌, ◌≤◌, Bool, true, false, cond, not, ◌||◌, leb, List, [], ◌∷◌, map, length, get_or, is_some, Some, None, Ok, Err, Option, Result, sym, refl, ap, ◌∙◌, ap₂, arith}
+use Rattle.std.proofs.Common.{◌≡◌, ℕ, ◌+◌, ◌≤◌, Bool, true, false, cond, not, ◌||◌, leb, List, [], ◌∷◌, map, length, get_or, is_some, Some, None, Ok, Err, Option, Result, sym, refl, ap, ◌∙◌, ap₂}
 use lib.ListN.{length-map, get_or-map}
 use Rattle.std.proofs.lemmas.Bool.{leb-true}
 use Rattle.amount.specs.Arithmetic.{Ops, bind}
@@ -10,6 +10,7 @@ use Rattle.law.specs.Book.{Answer, refused, accepted, done, guard, guard_at, ope
 use Rattle.law.specs.Book as machine
 use Rattle.law.proofs.Rows.{nowhere, none_given}
 use Rattle.rows.specs.Effects.{turned}
+use Rattle.rows.specs.Kinds.{Kind}
 use Rattle.rows.specs.Legend.{refusal}
 use Rattle.rows.specs.Rows.{by_state, row_of}
 use Rattle.rows.specs.declared.effect.RowCall.{RowCall}
@@ -27,14 +28,14 @@ moves_by Empty x a = refl
 moves_by AtRest x a = refl
 moves_by Moving x a = refl
 
-module _ {A : Type 0} (w : ℕ) (decode : List ℕ → Option A) (zero : A) where
+module _ {A : Type 0} (kind : Kind A) where
   -- a slip is out where a row's tag says so
-  pub slip_is : (rows : List Row) → lowest_place moves rows ≡ slip_bay (map (row_of w decode zero) rows)
+  pub slip_is : (rows : List Row) → lowest_place moves rows ≡ slip_bay (map (row_of kind) rows)
   slip_is [] = refl
   slip_is (r ∷ rows) = ap₂ (λ b x. cond b (Some 0) (bind x (λ p. Some (p + 1)))) (sym (moves_by r.state _ _)) (slip_is rows)
 
-  pub row_is : (rows : List Row) (i : ℕ) → row (map (row_of w decode zero) rows) i ≡ row_of w decode zero (get_or rows i no_row)
-  row_is rows i = get_or-map (row_of w decode zero) rows i no_row
+  pub row_is : (rows : List Row) (i : ℕ) → row (map (row_of kind) rows) i ≡ row_of kind (get_or rows i no_row)
+  row_is rows i = get_or-map (row_of kind) rows i no_row
 
 -- the bays of the rows
 pub seen_length : {A : Type 0} (f : Row → machine.Row A) (rows : List Row) → length (seen (map f rows)) ≡ length rows
@@ -52,10 +53,10 @@ pub fits : (w : ℕ) (c : Bool) → (not (leb w 16) || c) ≡ false → w ≤ 16
 fits w c h = leb-true w 16 (fits_by (leb w 16) c h)
 
 pub ok_err : {X E C : Type 0} {x : X} {e : E} → Ok x ≡ Err e → C
-ok_err h = let z : ◌≡◌ {A = ℕ} 0 1 = cc in absurd (omega arith)
+ok_err h = absurd cc
 
 pub same_err : {X E : Type 0} {d e : E} → ◌≡◌ {A = Result X E} (Err d) (Err e) → d ≡ e
-same_err {d = d} h = ap (λ r. elim r [ Ok _ ↦ d | Err y ↦ y ]) h
+same_err h = cc
 
 known_by : (x y : Bool) → ◌≡◌ {A = Result (Unit {0}) Refusal} (Ok tt) (cond x (Err Shut) (cond y (Err NoBay) (Ok tt))) → (x ≡ false) × (y ≡ false)
 known_by true y e = ok_err e

@@ -1,6 +1,6 @@
 -- What the calls answer, as the machine answers. Assumes nothing.
 use Rattle.std.specs.Prelude.{◌≡◌, ℕ, Bool, Ok, Err, Result}
-use Rattle.law.specs.Book.{Answer, accepted, done, granted, ordered, answered}
+use Rattle.law.specs.Book.{Answer, Reply, accepted, done, granted, ordered, answered}
 use Rattle.law.specs.Book as machine
 use Rattle.rows.specs.Legend.{refusal}
 use Rattle.rows.specs.declared.refusal.Refusal.{Refusal}
@@ -26,15 +26,24 @@ abbrev pub of_spent : Result (Unit {0}) Unspent → Answer
 of_spent (Ok _) = accepted done
 of_spent (Err u) = refusal u.refusal
 
+-- a slip that is to be spent: gone with the call, or back with its refusal
+abbrev pub spent : Slip → Result (Unit {0}) Refusal → Result (Unit {0}) Unspent
+spent s (Ok _) = Ok tt
+spent s (Err e) = Err (record { refusal = e; slip = s })
+
 -- a refusal hands the slip back
 abbrev pub HandedBack : Slip → Result (Unit {0}) Unspent → Type 0
 HandedBack s (Ok _) = Unit {0}
 HandedBack s (Err u) = u.slip ≡ s
 
+-- a count of bays, in a reply
+abbrev pub of_count : (ℕ → Reply) → Result ℕ Refusal → Answer
+of_count reply (Ok n) = accepted (reply n)
+of_count reply (Err e) = refusal e
+
 -- order
 abbrev pub of_order : Result ℕ Refusal → Answer
-of_order (Ok n) = accepted (ordered n)
-of_order (Err e) = refusal e
+of_order r = of_count ordered r
 
 -- all-in
 abbrev pub of_question : Result Bool Refusal → Answer

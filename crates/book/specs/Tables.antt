@@ -4,6 +4,7 @@ use Rattle.orders.specs.Sessions.{Session}
 use Rattle.law.specs.Book.{seen_row, slip_bay}
 use Rattle.law.specs.Book as machine
 use Rattle.rows.specs.Effects.{turned}
+use Rattle.rows.specs.Kinds.{Kind}
 use Rattle.rows.specs.Rows.{row_of}
 use Rattle.rows.specs.declared.effect.RowCall.{RowCall}
 use Rattle.rows.specs.declared.refusal.Refusal.{Refusal}
@@ -48,12 +49,12 @@ sat (Ok next) (Some s) = Ok (next, s)
 abbrev pub spending : ℕ → Table → Slip → RowCall → Result RowState Refusal
 spending w t slip call = cond (is_shut w t) (Err refusals.Shut) (cond (not (slip.book == t.number)) (Err refusals.WrongSlip) (cond (nat_le 64 slip.bay) (Err refusals.WrongSlip) (turned (row_in t slip.bay).state call)))
 
-module _ {A : Type 0} (w : ℕ) (decode : List ℕ → Option A) (zero : A) where
+module _ {A : Type 0} (kind : Kind A) where
   -- the bays as the machine has them
   abbrev pub rows_in : Table → List (machine.Row A)
-  rows_in t = map (row_of w decode zero) t.rows
+  rows_in t = map (row_of kind) t.rows
 
   -- refusals 1, 2, 4 and 6
   abbrev pub sitting : Table → ℕ → RowCall → Result (RowState × Session A) Refusal
-  sitting t i call = cond (is_shut w t) (Err refusals.Shut) (cond (nat_le 64 i) (Err refusals.NoBay) (cond (is_some (slip_bay (rows_in t))) (Err refusals.Moving)
-      (sat (turned (row_in t i).state call) (seen_row (row_of w decode zero (row_in t i))))))
+  sitting t i call = cond (is_shut kind.W t) (Err refusals.Shut) (cond (nat_le 64 i) (Err refusals.NoBay) (cond (is_some (slip_bay (rows_in t))) (Err refusals.Moving)
+      (sat (turned (row_in t i).state call) (seen_row (row_of kind (row_in t i))))))

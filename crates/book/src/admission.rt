@@ -3,7 +3,7 @@ ghost use Rattle.law.specs.Book.{slip_bay};
 ghost use Rattle.book.specs.Tables.{no_row, is_shut, rows_in, known, sitting, spending};
 
 use crate::slip::Slip;
-use crate::table::{Table, row_at, some_moving};
+use crate::table::{Table, some_moving};
 use amount::Amount;
 use archive::Archived;
 use orders::Session;
@@ -19,7 +19,7 @@ impl Table {
 
     // Whether a slip of this book is out.
     pub(crate) fn slip_out<A: Archived>(&self) -> bool
-        ensures { result ≡ is_some (slip_bay (rows_in A.Archived.W A.Archived.decode A.Amount.ops.zero self.now)) }
+        ensures { result ≡ is_some (slip_bay (rows_in A.Archived self.now)) }
     {
         some_moving(&self.rows)
     }
@@ -43,18 +43,16 @@ impl Table {
         bay: u8,
         call: RowCall,
     ) -> Result<(RowState, Session<A>), Refusal>
-        ensures { result ≡ sitting A.Archived.W A.Archived.decode A.Amount.ops.zero self.now bay call }
+        ensures { result ≡ sitting A.Archived self.now bay call }
     {
         self.known::<A>(bay)?;
         if self.slip_out::<A>() {
             return Err(Refusal::Moving);
         }
-        let row = self.rows[bay as usize];
+        let row = self.rows[usize::from(bay)];
         let next = turn(row.state, call)?;
-        match row.session() {
-            Some(session) => Ok((next, session)),
-            None => Err(Refusal::Empty),
-        }
+        let session = row.session().ok_or(Refusal::Empty)?;
+        Ok((next, session))
     }
 
     // The state of the slip's bay after the call: refusals 1 and 13.
@@ -66,16 +64,16 @@ impl Table {
         ensures answer { result ≡ spending A.Archived.W self.now slip.now call }
         ensures past { 64 ≤ slip.now.bay → slice_index_or self.now.rows slip.now.bay no_row ≡ no_row }
     {
-        let found = row_at(&self.rows, slip.bay);
         if self.is_shut::<A>() {
             return Err(Refusal::Shut);
         }
         if slip.book != self.number {
             return Err(Refusal::WrongSlip);
         }
-        match found {
-            Some(row) => turn(row.state, call),
-            None => Err(Refusal::WrongSlip),
-        }
+        let row = self
+            .rows
+            .get(usize::from(slip.bay))
+            .ok_or(Refusal::WrongSlip)?;
+        turn(row.state, call)
     }
 }

@@ -1,59 +1,35 @@
 ghost use Rattle.std.specs.Prelude.{◌≡◌};
-ghost use Rattle.pool.specs.Limits.{room};
-ghost use Rattle.law.specs.Book.{asks, answer, step, sheet_after};
+ghost use Rattle.law.specs.Book.{asks, sheet_after};
 ghost use Rattle.book.specs.Books.{state_of};
 ghost use Rattle.book.specs.Replies.{of_grant};
+ghost use Rattle.book.specs.Served.{Served};
 
 use crate::book::Book;
+use crate::ordering::lay_order;
 use crate::slip::{Grant, Slip};
 use crate::table::seat_all;
 use amount::Amount;
 use archive::Archived;
 use orders::Session;
-use pool::Pool;
+use pool::{Pool, room};
 use rows::{Refusal, RowCall};
-
-// What the session would hold with the amount more, where that is part of its claim.
-fn grown<A: Amount>(session: Session<A>, amount: A) -> Option<A>
-    ensures { result ≡ room A.Amount.ops session.claim session.holding amount }
-{
-    let sum = session.holding.plus(amount)?;
-    if session.claim.minus(sum).is_some() {
-        Some(sum)
-    } else {
-        None
-    }
-}
 
 impl<A: Archived, P: Pool<A>> Book<A, P> {
     // Asks for a portion. Granted where every open session can still finish with it out: the bay moves, and the order is on the
     // front of the sheet.
     pub fn ask(&mut self, bay: u8, amount: A, sheet: &mut [u8]) -> Result<Grant, Refusal>
-        ensures answer { of_grant result ≡ answer A.Amount.ops (state_of A.Amount.ops A.Archived.W A.Archived.decode P.Pool.limits self.old) (asks bay amount sheet.old) }
-        ensures after { state_of A.Amount.ops A.Archived.W A.Archived.decode P.Pool.limits self.new ≡ step A.Amount.ops (state_of A.Amount.ops A.Archived.W A.Archived.decode P.Pool.limits self.old) (asks bay amount sheet.old) }
-        ensures sheet { sheet.new ≡ sheet_after A.Amount.ops (state_of A.Amount.ops A.Archived.W A.Archived.decode P.Pool.limits self.old) (asks bay amount sheet.old) }
+        ensures served { Served A.Archived P.Pool.limits self.old (asks bay amount sheet.old) (of_grant result) self.new }
+        ensures sheet { sheet.new ≡ sheet_after A.Amount.ops (state_of A.Archived P.Pool.limits self.old) (asks bay amount sheet.old) }
     {
         let (next, session) = self.table.sitting::<A>(bay, RowCall::Ask)?;
-        let Some(holding) = grown(session, amount) else {
-            return Err(Refusal::AboveClaim);
-        };
+        let holding = room(session.claim, session.holding, amount).ok_or(Refusal::AboveClaim)?;
         let mut pile = self.pile;
         pile.take(session.mark, amount)?;
         seat_all(&self.table.rows, &mut self.trial);
-        self.trial.seat(
-            bay,
-            Some(Session {
-                mark: session.mark,
-                claim: session.claim,
-                holding,
-            }),
-        );
-        let Some(order) = self.trial.completion_order(&pile) else {
-            return Err(Refusal::PutOff);
-        };
-        let count = order.fill(sheet)?;
+        self.trial.seat(bay, Some(Session { holding, ..session }));
+        let count = lay_order(&mut self.trial, &pile, sheet)?;
         self.pile = pile;
-        let row = &mut self.table.rows[bay as usize];
+        let row = &mut self.table.rows[usize::from(bay)];
         row.state = next;
         row.holding.write(holding);
         row.portion.write(amount);

@@ -4,6 +4,7 @@
 mod admission;
 mod asking;
 mod book;
+mod ordering;
 mod questions;
 mod sessions;
 mod slip;

@@ -1,8 +1,9 @@
-ghost use Rattle.std.specs.Prelude.{◌≡◌, IfErr};
-ghost use Rattle.law.specs.Book.{confirms, withdraws, answer, step};
+ghost use Rattle.std.specs.Prelude.{IfErr};
+ghost use Rattle.law.specs.Book.{confirms, withdraws};
 ghost use Rattle.book.specs.Books.{state_of};
 ghost use Rattle.book.specs.Faults.{torn_withdraw, TornAt};
-ghost use Rattle.book.specs.Replies.{slip_of, of_spent, HandedBack};
+ghost use Rattle.book.specs.Replies.{slip_of, of_done, of_spent, HandedBack};
+ghost use Rattle.book.specs.Served.{Served};
 
 use crate::book::Book;
 use crate::slip::{Slip, Unspent};
@@ -14,47 +15,45 @@ use rows::{Refusal, RowCall};
 impl<A: Archived, P: Pool<A>> Book<A, P> {
     // The portion stays, and the bay is at rest.
     pub fn confirm(&mut self, slip: Slip) -> Result<(), Unspent>
-        ensures answer { of_spent result ≡ answer A.Amount.ops (state_of A.Amount.ops A.Archived.W A.Archived.decode P.Pool.limits self.old) (confirms (slip_of slip)) }
-        ensures after { state_of A.Amount.ops A.Archived.W A.Archived.decode P.Pool.limits self.new ≡ step A.Amount.ops (state_of A.Amount.ops A.Archived.W A.Archived.decode P.Pool.limits self.old) (confirms (slip_of slip)) }
+        ensures served { Served A.Archived P.Pool.limits self.old (confirms (slip_of slip)) (of_spent result) self.new }
         ensures slip { HandedBack slip result }
     {
-        match self.table.spending::<A>(&slip, RowCall::Confirm) {
-            Err(refusal) => Err(Unspent { refusal, slip }),
-            Ok(next) => {
-                let Slip { book: _, bay } = slip;
-                self.table.rows[bay as usize].state = next;
-                Ok(())
-            }
-        }
+        let call = self.keep_portion(&slip);
+        slip.spent(call)
     }
 
     // The portion goes back, and the bay is at rest.
     pub fn withdraw(&mut self, slip: Slip) -> Result<(), Unspent>
-        ensures answer { of_spent result ≡ answer A.Amount.ops (state_of A.Amount.ops A.Archived.W A.Archived.decode P.Pool.limits self.old) (withdraws (slip_of slip)) }
-        ensures after { state_of A.Amount.ops A.Archived.W A.Archived.decode P.Pool.limits self.new ≡ step A.Amount.ops (state_of A.Amount.ops A.Archived.W A.Archived.decode P.Pool.limits self.old) (withdraws (slip_of slip)) }
+        ensures served { Served A.Archived P.Pool.limits self.old (withdraws (slip_of slip)) (of_spent result) self.new }
         ensures slip { HandedBack slip result }
-        ensures fault { IfErr result (λ u. TornAt (torn_withdraw A.Amount.ops (state_of A.Amount.ops A.Archived.W A.Archived.decode P.Pool.limits self.old) slip.bay) u.refusal) }
+        ensures fault { IfErr result (λ u. TornAt (torn_withdraw A.Amount.ops (state_of A.Archived P.Pool.limits self.old) slip.bay) u.refusal) }
     {
-        match self.table.spending::<A>(&slip, RowCall::Withdraw) {
-            Err(refusal) => Err(Unspent { refusal, slip }),
-            Ok(next) => {
-                let before = self.table.rows[slip.bay as usize];
-                let portion: A = before.portion.read();
-                let holding: A = before.holding.read();
-                match self.pile.give(before.mark, portion) {
-                    Err(fault) => Err(Unspent {
-                        refusal: Refusal::Torn(fault),
-                        slip,
-                    }),
-                    Ok(()) => {
-                        let Slip { book: _, bay } = slip;
-                        let row = &mut self.table.rows[bay as usize];
-                        row.state = next;
-                        row.holding.write(holding.minus(portion).unwrap_or(holding));
-                        Ok(())
-                    }
-                }
-            }
-        }
+        let call = self.return_portion(&slip);
+        slip.spent(call)
+    }
+
+    // What a confirm does where its slip is this book's, and its bay moves.
+    fn keep_portion(&mut self, slip: &Slip) -> Result<(), Refusal>
+        ensures { Served A.Archived P.Pool.limits self.old (confirms (slip_of slip.now)) (of_done result) self.new }
+    {
+        let next = self.table.spending::<A>(slip, RowCall::Confirm)?;
+        self.table.rows[usize::from(slip.bay)].state = next;
+        Ok(())
+    }
+
+    // What a withdrawal does there, where the pile takes the portion back.
+    fn return_portion(&mut self, slip: &Slip) -> Result<(), Refusal>
+        ensures served { Served A.Archived P.Pool.limits self.old (withdraws (slip_of slip.now)) (of_done result) self.new }
+        ensures fault { IfErr result (TornAt (torn_withdraw A.Amount.ops (state_of A.Archived P.Pool.limits self.old) slip.now.bay)) }
+    {
+        let next = self.table.spending::<A>(slip, RowCall::Withdraw)?;
+        let before = self.table.rows[usize::from(slip.bay)];
+        let portion: A = before.portion.read();
+        let holding: A = before.holding.read();
+        self.pile.give(before.mark, portion).map_err(Refusal::Torn)?;
+        let row = &mut self.table.rows[usize::from(slip.bay)];
+        row.state = next;
+        row.holding.write(holding.minus(portion).unwrap_or(holding));
+        Ok(())
     }
 }

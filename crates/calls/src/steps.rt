@@ -86,8 +86,8 @@ fn serve<A: Sample, P: Pool<A>>(
     call: Call,
     sheet: &mut [u8],
 ) -> (Answer, Option<Slip>)
-    requires { Held (state_of A.Amount.ops A.Archived.W A.Archived.decode P.Pool.limits book.old) held }
-    ensures { Held (state_of A.Amount.ops A.Archived.W A.Archived.decode P.Pool.limits book.new) result.1 }
+    requires { Held (state_of A.Archived P.Pool.limits book.old) held }
+    ensures { Held (state_of A.Archived P.Pool.limits book.new) result.1 }
 {
     match call {
         Call::Open(bay, mark, n) => (done(book.open(bay, mark, A::of(n))), held),
@@ -153,7 +153,7 @@ fn spend_there<A: Archived, P: Pool<A>>(
 
 // The slip that is still out.
 fn settle<A: Archived, P: Pool<A>>(book: &mut Book<A, P>, held: Option<Slip>)
-    requires { Held (state_of A.Amount.ops A.Archived.W A.Archived.decode P.Pool.limits book.old) held }
+    requires { Held (state_of A.Archived P.Pool.limits book.old) held }
 {
     match held {
         None => {}
@@ -177,7 +177,7 @@ struct Glance {
 
 // The questions leave the book as it was.
 fn seen_at<A: Archived, P: Pool<A>>(book: &mut Book<A, P>) -> Glance
-    ensures { state_of A.Amount.ops A.Archived.W A.Archived.decode P.Pool.limits book.new ≡ state_of A.Amount.ops A.Archived.W A.Archived.decode P.Pool.limits book.old }
+    ensures { state_of A.Archived P.Pool.limits book.new ≡ state_of A.Archived P.Pool.limits book.old }
 {
     let mut sheet = [BLANK; 64];
     let named = match book.order(&mut sheet) {
@@ -239,8 +239,8 @@ fn made<A: Sample, P: Pool<A>, B: Sample, Q: Pool<B>>(
     call: Call,
     sheet: &mut [u8; 80],
 ) -> (Answer, Option<Slip>)
-    requires { Held (state_of A.Amount.ops A.Archived.W A.Archived.decode P.Pool.limits book.old) held }
-    ensures { Held (state_of A.Amount.ops A.Archived.W A.Archived.decode P.Pool.limits book.new) result.1 }
+    requires { Held (state_of A.Archived P.Pool.limits book.old) held }
+    ensures { Held (state_of A.Archived P.Pool.limits book.new) result.1 }
 {
     match call {
         Call::ConfirmThere => spend_there(other, held, false),
@@ -260,8 +260,8 @@ fn turn<A: Sample, P: Pool<A>, B: Sample, Q: Pool<B>>(
     call: Call,
     due: Due,
 ) -> (bool, Option<Slip>)
-    requires { Held (state_of A.Amount.ops A.Archived.W A.Archived.decode P.Pool.limits book.old) held }
-    ensures { Held (state_of A.Amount.ops A.Archived.W A.Archived.decode P.Pool.limits book.new) result.1 }
+    requires { Held (state_of A.Archived P.Pool.limits book.old) held }
+    ensures { Held (state_of A.Archived P.Pool.limits book.new) result.1 }
 {
     let here = seen_at(book);
     let there = seen_at(other);

@@ -1,1 +1,2 @@
+pub mod Bound
 pub mod Cells

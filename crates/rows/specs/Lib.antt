@@ -1,4 +1,5 @@
 pub mod Cells
 pub mod Effects
+pub mod Kinds
 pub mod Legend
 pub mod Rows

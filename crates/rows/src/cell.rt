@@ -5,7 +5,7 @@ use amount::Amount;
 use archive::Archived;
 
 // 16 bytes of a row, of which the first W hold an amount.
-#[derive(Clone, Copy)]
+#[derive(Clone, Copy, Debug, Eq, PartialEq)]
 pub struct Cell {
     bytes: [u8; 16],
 }
@@ -19,25 +19,22 @@ impl Cell {
 
     // The amount that the cell holds; zero where the kind is wider than the cell.
     pub fn read<A: Archived>(&self) -> A
-        ensures { result ≡ amount_in A.Archived.W A.Archived.decode A.Amount.ops.zero self.now }
+        ensures { result ≡ amount_in A.Archived self.now }
     {
         let w = A::W;
         if w > 16 {
             return A::zero();
         }
-        match A::read(&self.bytes[0..w]) {
-            Some(amount) => amount,
-            None => A::zero(),
-        }
+        A::read(&self.bytes[..w]).unwrap_or(A::zero())
     }
 
     // Writes the amount into the first W bytes; the others stay, and all do where the kind is wider than the cell.
     pub fn write<A: Archived>(&mut self, amount: A)
-        ensures { self.new ≡ with_amount A.Archived.W (A.Archived.bytes amount) self.old }
+        ensures { self.new ≡ with_amount A.Archived amount self.old }
     {
         let w = A::W;
         if w <= 16 {
-            let _ = amount.write(&mut self.bytes[0..w]);
+            let _ = amount.write(&mut self.bytes[..w]);
         }
     }
 }

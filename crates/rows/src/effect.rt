@@ -5,7 +5,7 @@ use crate::refusal::Refusal;
 use crate::row::RowState;
 
 // The calls that change a bay, by their tags.
-#[derive(Clone, Copy)]
+#[derive(Clone, Copy, Debug, Eq, PartialEq)]
 pub enum RowCall {
     Open,
     Ask,

@@ -6,7 +6,7 @@ use pool::LimitFault;
 use search::ShortSheet;
 
 // Why a call of the book is refused.
-#[derive(Clone, Copy)]
+#[derive(Clone, Copy, Debug, Eq, PartialEq)]
 pub enum Refusal {
     // the book was made shut
     Shut,

@@ -8,15 +8,15 @@ use archive::Archived;
 use orders::Session;
 
 // A bay is empty, at rest, or moving.
-#[derive(Clone, Copy)]
+#[derive(Clone, Copy, Debug, Eq, PartialEq)]
 pub enum RowState {
     Empty,
     AtRest,
     Moving,
 }
 
-// What is kept for one bay: a plain tag, and beside it the session's amounts as bytes.
-#[derive(Clone, Copy)]
+// What is kept for one bay: a plain tag, and beside it the session's amounts as bytes. The rules keep a book in this form.
+#[derive(Clone, Copy, Debug, Eq, PartialEq)]
 pub struct Row {
     pub state: RowState,
     pub mark: u8,
@@ -41,7 +41,7 @@ impl Row {
 
     // The open session, if there is one, its bytes decoded.
     pub fn session<A: Archived>(&self) -> Option<Session<A>>
-        ensures { result ≡ seen_row (row_of A.Archived.W A.Archived.decode A.Amount.ops.zero self.now) }
+        ensures { result ≡ seen_row (row_of A.Archived self.now) }
     {
         match self.state {
             RowState::Empty => None,

@@ -16,9 +16,9 @@ pub fn ask_and_confirm<A: Archived, P: Pool<A>>(
     amount: A,
     sheet: &mut [u8],
 ) -> Result<usize, Refusal>
-    ensures answer { of_portion (slip_for (state_of A.Amount.ops A.Archived.W A.Archived.decode P.Pool.limits book.old) bay) result ≡ answer A.Amount.ops (state_of A.Amount.ops A.Archived.W A.Archived.decode P.Pool.limits book.old) (asks bay amount sheet.old) }
-    ensures after { MatchResult result (λ _. state_of A.Amount.ops A.Archived.W A.Archived.decode P.Pool.limits book.new ≡ step A.Amount.ops (step A.Amount.ops (state_of A.Amount.ops A.Archived.W A.Archived.decode P.Pool.limits book.old) (asks bay amount sheet.old)) (confirms (slip_for (state_of A.Amount.ops A.Archived.W A.Archived.decode P.Pool.limits book.old) bay))) (λ _. state_of A.Amount.ops A.Archived.W A.Archived.decode P.Pool.limits book.new ≡ state_of A.Amount.ops A.Archived.W A.Archived.decode P.Pool.limits book.old) }
-    ensures sheet { sheet.new ≡ sheet_after A.Amount.ops (state_of A.Amount.ops A.Archived.W A.Archived.decode P.Pool.limits book.old) (asks bay amount sheet.old) }
+    ensures answer { of_portion (slip_for (state_of A.Archived P.Pool.limits book.old) bay) result ≡ answer A.Amount.ops (state_of A.Archived P.Pool.limits book.old) (asks bay amount sheet.old) }
+    ensures after { MatchResult result (λ _. state_of A.Archived P.Pool.limits book.new ≡ step A.Amount.ops (step A.Amount.ops (state_of A.Archived P.Pool.limits book.old) (asks bay amount sheet.old)) (confirms (slip_for (state_of A.Archived P.Pool.limits book.old) bay))) (λ _. state_of A.Archived P.Pool.limits book.new ≡ state_of A.Archived P.Pool.limits book.old) }
+    ensures sheet { sheet.new ≡ sheet_after A.Amount.ops (state_of A.Archived P.Pool.limits book.old) (asks bay amount sheet.old) }
 {
     let Grant { count, slip } = book.ask(bay, amount, sheet)?;
     match book.confirm(slip) {
@@ -39,9 +39,9 @@ pub fn ask_and_withdraw<A: Archived, P: Pool<A>>(
     amount: A,
     sheet: &mut [u8],
 ) -> Result<usize, Refusal>
-    ensures answer { of_portion (slip_for (state_of A.Amount.ops A.Archived.W A.Archived.decode P.Pool.limits book.old) bay) result ≡ answer A.Amount.ops (state_of A.Amount.ops A.Archived.W A.Archived.decode P.Pool.limits book.old) (asks bay amount sheet.old) }
-    ensures after { state_of A.Amount.ops A.Archived.W A.Archived.decode P.Pool.limits book.new ≡ state_of A.Amount.ops A.Archived.W A.Archived.decode P.Pool.limits book.old }
-    ensures sheet { sheet.new ≡ sheet_after A.Amount.ops (state_of A.Amount.ops A.Archived.W A.Archived.decode P.Pool.limits book.old) (asks bay amount sheet.old) }
+    ensures answer { of_portion (slip_for (state_of A.Archived P.Pool.limits book.old) bay) result ≡ answer A.Amount.ops (state_of A.Archived P.Pool.limits book.old) (asks bay amount sheet.old) }
+    ensures after { state_of A.Archived P.Pool.limits book.new ≡ state_of A.Archived P.Pool.limits book.old }
+    ensures sheet { sheet.new ≡ sheet_after A.Amount.ops (state_of A.Archived P.Pool.limits book.old) (asks bay amount sheet.old) }
 {
     let Grant { count, slip } = book.ask(bay, amount, sheet)?;
     match book.withdraw(slip) {

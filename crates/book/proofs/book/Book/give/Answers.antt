@@ -1,103 +1,90 @@
-use Rattle.std.proofs.Common.{◌≡◌, Some, is_some, not, List, Ok, set, sym, refl, ap, ◌∙◌, ap₂}
+use Rattle.std.proofs.Common.{◌≡◌, List, set, sym, refl, ap, ap₂, ◌∙◌, rules, of_calls}
 use Rattle.std.proofs.lemmas.Result.{err_from_is_err_and}
-use Rattle.pool.specs.Limits.{Limit, told_place, torn_place, given_back}
-use Rattle.pool.specs.declared.limit_fault.LimitFault.{LimitFault}
+use Rattle.pool.specs.Limits.{Limit, told_place, given_back}
 use Rattle.orders.specs.Sessions.{Session, with_holding}
 use Rattle.law.specs.Book.{State, accepted, done, guard, seen_row, gives, give_answer, gave, with_mark, answer}
 use Rattle.law.specs.Book as machine
 use Rattle.rows.proofs.Cells.{reads_written}
-use Rattle.rows.specs.Legend.{refusal}
 use Rattle.rows.specs.declared.effect.RowCall.TheVariants.{Give}
-use Rattle.rows.specs.declared.refusal.Refusal.TheVariants.{MoreThanHeld, Torn as OfLimit}
+use Rattle.rows.specs.declared.refusal.Refusal.TheVariants.{MoreThanHeld}
 use Rattle.rows.specs.declared.row.RowState.TheVariants.{AtRest}
+use Rattle.rows.proofs.Bound.{kind_of}
 use Rattle.book.proofs.Read.{fits}
 use Rattle.book.specs.Tables.{row_in}
-use Rattle.book.proofs.Steps.{state, stays, changes, same_limits, rests_now, less_is, change_made, change_refused, sitting_refused, sitting_ok}
-use Rattle.book.specs.Faults.{torn_give, torn_session}
-use Rattle.book.proofs.Untorn.{sitting_untorn}
+use Rattle.book.proofs.Steps.{state, refuses, rests_now, less_is, give_more, give_part, sitting_refused, sits, torn, torn_told, gave_back}
+use Rattle.book.specs.Faults.{torn_session}
+use Rattle.book.proofs.Tried.{lacking, present, torn_by, untorn_by}
 use Rattle.book.proofs.book.Book.give.Goals as goal
 
-pub returns-in_err-next : goal.returns-in_err-next
-returns-in_err-next g c =
+pub returns-in_err-next-clause-served : goal.returns-in_err-next-clause-served
+returns-in_err-next-clause-served g c =
     let o = g.A.Amount.ops in
-    let w = g.A.Archived.W in
-    let decode = g.A.Archived.decode in
+    let kind = kind_of g.A.Amount.ops g.A.Archived in
     let limits = g.P.Pool.limits in
-    let t = c.args.self.now.table in
-    let ls = limits c.args.self.now.pile in
+    let b = c.args.self.now in
     let i = c.args.bay in
-    let st = state o w decode t ls in
-    let h = sitting_refused o w decode t ls Give AtRest refl refl i c.in_err-next.field-0.0 (give_answer o st c.args.amount) refl c.in_err-next.ensures in
+    let a = c.args.amount in
+    let st = state kind b.table (limits b.pile) in
+    let e = c.in_err-next.field-0.0 in
+    let h = sitting_refused kind b.table (limits b.pile) Give AtRest refl refl i e (give_answer o st a) refl c.in_err-next.ensures in
     let p = err_from_is_err_and c.from_residual.result c.from_residual.ensures.1 in
-    rw (p.1, p.2) (record { answer = h; after = stays o w decode t ls (gives i c.args.amount) c.in_err-next.field-0.0 h; fault = sitting_untorn w decode o.zero t i Give c.in_err-next.field-0.0 (torn_give o st i c.args.amount) c.in_err-next.ensures })
+    rw (p.1, p.2) (refuses kind limits b (gives i a) b e refl h)
 
-pub returns-in_default : goal.returns-in_default
-returns-in_default g c =
+pub returns-in_err-rest-clause-served : goal.returns-in_err-rest-clause-served
+returns-in_err-rest-clause-served g c =
     let o = g.A.Amount.ops in
-    let w = g.A.Archived.W in
-    let decode = g.A.Archived.decode in
+    let kind = kind_of g.A.Amount.ops g.A.Archived in
     let limits = g.P.Pool.limits in
-    let t = c.args.self.now.table in
-    let ls = limits c.args.self.now.pile in
+    let b = c.args.self.now in
     let i = c.args.bay in
-    let st = state o w decode t ls in
     let a = c.args.amount in
+    let st = state kind b.table (limits b.pile) in
     let q = c.session.inside in
     let s : Session g.row.A.Denot = record { mark = q.mark; claim = q.claim; holding = q.holding } in
-    let same : s ≡ c.in_ok-next.session = c.session.view_is in
-    let ok : Ok (c.in_ok-next.next, s) ≡ _ = ap (λ z. Ok (c.in_ok-next.next, z)) same ∙ c.in_ok-next.ensures in
-    let x = sitting_ok o w decode t ls Give AtRest refl refl i c.in_ok-next.next s ok in
-    let h : refusal MoreThanHeld ≡ answer o st (gives i a) = sym (x.through (give_answer o st a) ∙ ap (λ m. guard (not (is_some m)) 11 (guard (is_some (torn_place o st.pile s.mark a)) 14 (accepted done))) (sym c.minus.ensures ∙ c.in_default.is)) in
-    record { answer = h; after = stays o w decode t ls (gives i a) MoreThanHeld h; fault = tt }
+    let x = sits kind b.table (limits b.pile) Give AtRest refl refl i c.in_ok-next.next q.mark q.claim q.holding c.in_ok-next.session c.session.view_is c.in_ok-next.ensures in
+    let y = lacking c.minus.result MoreThanHeld c.in_err-rest.field-0.0 c.ok_or.result c.ok_or.ensures.value c.in_err-rest.was in
+    let p = err_from_is_err_and c.from_residual-in_err-rest.result c.from_residual-in_err-rest.ensures.1 in
+    rw (p.1, p.2, y.1) (refuses kind limits b (gives i a) b MoreThanHeld refl (sym (x.through (give_answer o st a) ∙ give_more o st s a (sym c.minus.ensures ∙ y.0))))
 
-pub returns-in-Err : goal.returns-in-Err
-returns-in-Err g c =
+pub returns-in_err-map_err : goal.returns-in_err-map_err
+returns-in_err-map_err g c =
     let o = g.A.Amount.ops in
-    let w = g.A.Archived.W in
-    let decode = g.A.Archived.decode in
+    let kind = kind_of g.A.Amount.ops g.A.Archived in
     let limits = g.P.Pool.limits in
-    let t = c.args.self.now.table in
-    let ls = limits c.args.self.now.pile in
+    let b = c.args.self.now in
     let i = c.args.bay in
-    let st = state o w decode t ls in
     let a = c.args.amount in
+    let st = state kind b.table (limits b.pile) in
     let q = c.session.inside in
     let s : Session g.row.A.Denot = record { mark = q.mark; claim = q.claim; holding = q.holding } in
-    let same : s ≡ c.in_ok-next.session = c.session.view_is in
-    let ok : Ok (c.in_ok-next.next, s) ≡ _ = ap (λ z. Ok (c.in_ok-next.next, z)) same ∙ c.in_ok-next.ensures in
-    let x = sitting_ok o w decode t ls Give AtRest refl refl i c.in_ok-next.next s ok in
-    let y = change_refused o (torn_place o st.pile s.mark a) (given_back o s.mark a st.pile) st.pile (limits c.give.new.self) _ c.in-Err.ensures in
-    let h =
-    ap (λ e. refusal (OfLimit e)) y.2
-    ∙ sym (x.through (give_answer o st a)
-    ∙ ap (λ m. guard (not (is_some m)) 11 (guard (is_some (torn_place o st.pile s.mark a)) 14 (accepted done))) (sym c.minus.ensures ∙ c.in-Some.is)
-    ∙ ap (λ p. guard (is_some p) 14 (accepted done)) y.1) in
-    record { answer = h; after = same_limits o w decode t ls (limits c.give.new.self) y.3 ∙ stays o w decode t ls (gives i a) (OfLimit c.in-Err.fault) h; fault = ap (λ r. told_place (torn_session o st (λ _. a) (seen_row r))) x.at_rest ∙ ap told_place y.1 ∙ ap (λ (z : LimitFault). Some z.place) (sym y.2) }
+    let x = sits kind b.table (limits b.pile) Give AtRest refl refl i c.in_ok-next.next q.mark q.claim q.holding c.in_ok-next.session c.session.view_is c.in_ok-next.ensures in
+    let less : o.minus q.holding a ≡ _ = sym c.minus.ensures ∙ present c.minus.result MoreThanHeld c.in_ok-rest.rest c.ok_or.result c.ok_or.ensures.value c.in_ok-rest.was in
+    let comes = x.through (give_answer o st a) ∙ give_part o st s a c.in_ok-rest.rest less in
+    let y = torn_by _ c.give.result c.map_err.result c.in_err-map_err.field-0.0 c.map_err.ensures.cases (λ e d q. search (rules, of_calls)) c.in_err-map_err.was in
+    let p = err_from_is_err_and c.from_residual-in_err-map_err.result c.from_residual-in_err-map_err.ensures.1 in
+    rw (p.1, p.2, y.2) (record {
+      served = torn kind limits b (gives i a) q.mark a c.give.new.self c.give.result comes c.give.ensures y.0 y.1;
+      fault = ap (λ r. told_place (torn_session o st (λ _. a) (seen_row r))) x.at_rest ∙ torn_told kind limits b (gives i a) q.mark a c.give.new.self c.give.result comes c.give.ensures y.0 y.1;
+    })
 
-pub returns-in-Ok : goal.returns-in-Ok
-returns-in-Ok g c =
+pub returns-clause-served : goal.returns-clause-served
+returns-clause-served g c =
     let o = g.A.Amount.ops in
-    let w = g.A.Archived.W in
-    let decode = g.A.Archived.decode in
+    let kind = kind_of g.A.Amount.ops g.A.Archived in
     let limits = g.P.Pool.limits in
-    let t = c.args.self.now.table in
-    let ls = limits c.args.self.now.pile in
+    let b = c.args.self.now in
     let i = c.args.bay in
-    let st = state o w decode t ls in
     let a = c.args.amount in
+    let st = state kind b.table (limits b.pile) in
     let q = c.session.inside in
     let s : Session g.row.A.Denot = record { mark = q.mark; claim = q.claim; holding = q.holding } in
-    let same : s ≡ c.in_ok-next.session = c.session.view_is in
-    let ok : Ok (c.in_ok-next.next, s) ≡ _ = ap (λ z. Ok (c.in_ok-next.next, z)) same ∙ c.in_ok-next.ensures in
-    let rest = c.in-Some.rest in
-    let less : o.minus s.holding a ≡ _ = sym c.minus.ensures ∙ c.in-Some.is in
-    let x = sitting_ok o w decode t ls Give AtRest refl refl i c.in_ok-next.next s ok in
-    let y = change_made o (torn_place o st.pile s.mark a) (given_back o s.mark a st.pile) st.pile (limits c.give.new.self) c.in-Ok.ensures in
-    let h : accepted done ≡ answer o st (gives i a) =
-    sym (x.through (give_answer o st a)
-    ∙ ap (λ m. guard (not (is_some m)) 11 (guard (is_some (torn_place o st.pile s.mark a)) 14 (accepted done))) less
-    ∙ ap (λ p. guard (is_some p) 14 (accepted done)) y.0) in
+    let x = sits kind b.table (limits b.pile) Give AtRest refl refl i c.in_ok-next.next q.mark q.claim q.holding c.in_ok-next.session c.session.view_is c.in_ok-next.ensures in
+    let rest = c.in_ok-rest.rest in
+    let less : o.minus q.holding a ≡ _ = sym c.minus.ensures ∙ present c.minus.result MoreThanHeld rest c.ok_or.result c.ok_or.ensures.value c.in_ok-rest.was in
+    let comes = x.through (give_answer o st a) ∙ give_part o st s a rest less in
+    let y = untorn_by _ c.give.result c.map_err.result c.in_ok-map_err.field-0 c.map_err.ensures.cases c.in_ok-map_err.was in
+    let read = reads_written kind g.met.A.Archived.codec (fits kind.W b.table.shut x.opened) rest (row_in b.table c.from.result).holding c.write.new.self c.write.ensures in
     let F : List (Limit g.row.A.Denot) → machine.Row g.row.A.Denot → State g.row.A.Denot = λ ls r. record { shut = st.shut; number = st.number; pile = ls; rows = set st.rows i r } in
-    let m = ap₂ F (y.1 ∙ sym (ap (λ r. with_mark o (seen_row r) (λ k. given_back o k a st.pile) st.pile) x.at_rest)) (sym (ap (λ r. gave o r a) x.at_rest ∙ less_is o s a rest less)) in
-    let read = reads_written w g.A.Archived.bytes decode o.zero g.met.A.Archived.codec (fits w t.shut x.opened) rest (row_in t i).holding c.write.new.self c.write.ensures in
-    record { answer = h; after = changes o w decode t ls (gives i a) done i _ (limits c.give.new.self) (machine.rest (with_holding s rest)) h (rests_now o w decode t ls i _ rest s x.turns refl refl read x.same) m; fault = tt }
+    rw c.from.ensures (gave_back kind limits b (gives i a) q.mark a c.give.new.self c.give.result comes c.give.ensures y i _ (machine.rest (with_holding s rest))
+    (rests_now kind b.table (limits b.pile) i _ rest s x.turns refl refl read x.same)
+    (ap₂ F (sym (ap (λ r. with_mark o (seen_row r) (λ k. given_back o k a st.pile) st.pile) x.at_rest)) (sym (ap (λ r. gave o r a) x.at_rest ∙ less_is o s a rest less))))

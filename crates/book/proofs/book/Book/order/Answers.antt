@@ -1,66 +1,19 @@
-use Rattle.std.proofs.Common.{◌≡◌, sym, ap, ◌∙◌}
-use Rattle.std.proofs.lemmas.Result.{err_from_is_err_and}
-use Rattle.std.specs.Option.{option_map}
-use Rattle.law.specs.Book.{accepted, ordered, guard, seen, orders, order_answer, answer, moved, sheet_by}
-use Rattle.rows.specs.Legend.{refusal}
-use Rattle.rows.specs.declared.refusal.Refusal.TheVariants.{PutOff, ShortSheet}
-use Rattle.search.specs.Completing.{completing}
-use Rattle.search.specs.Named.{bays_of}
-use Rattle.book.proofs.Found.{not_found, no_sheet, laid_on, sheet_filled}
+use Rattle.std.proofs.Common.{sym, ap, ◌∙◌}
+use Rattle.law.specs.Book.{guard, seen, orders, ordered, order_answer, answer, sheet_by}
+use Rattle.rows.proofs.Bound.{kind_of}
+use Rattle.book.proofs.Found.{order_stays, order_sheet}
 use Rattle.book.proofs.Steps.{state}
 use Rattle.book.proofs.book.Book.order.Goals as goal
-
-pub returns-in_default : goal.returns-in_default
-returns-in_default g c =
-    let o = g.A.Amount.ops in
-    let w = g.A.Archived.W in
-    let decode = g.A.Archived.decode in
-    let t = c.args.self.now.table in
-    let ls = g.P.Pool.limits c.args.self.now.pile in
-    let st = state o w decode t ls in
-    let sheet = c.args.sheet.now in
-    let bays = seen st.rows in
-    let opened = sym c.is_shut.ensures ∙ c.if-is_shut.false in
-    let through = ap (λ b. guard b 1 (order_answer o ls bays sheet ordered)) opened in
-    let x = c.completion_order.result in
-    let k : option_map bays_of x ≡ completing o ls bays = c.completion_order.ensures.order ∙ ap (completing o ls) c.seat_all.ensures in
-    let h : refusal PutOff ≡ answer o st (orders sheet) = not_found o ls bays sheet ordered x k c.in_default.is ∙ sym through in
-    record { answer = h; after = ap (moved o st (orders sheet)) h; sheet = ap (sheet_by o st (orders sheet)) h }
-
-pub returns-in_err-count : goal.returns-in_err-count
-returns-in_err-count g c =
-    let o = g.A.Amount.ops in
-    let w = g.A.Archived.W in
-    let decode = g.A.Archived.decode in
-    let t = c.args.self.now.table in
-    let ls = g.P.Pool.limits c.args.self.now.pile in
-    let st = state o w decode t ls in
-    let sheet = c.args.sheet.now in
-    let bays = seen st.rows in
-    let opened = sym c.is_shut.ensures ∙ c.if-is_shut.false in
-    let through = ap (λ b. guard b 1 (order_answer o ls bays sheet ordered)) opened in
-    let x = c.completion_order.result in
-    let k : option_map bays_of x ≡ completing o ls bays = c.completion_order.ensures.order ∙ ap (completing o ls) c.seat_all.ensures in
-    let y = c.in_err-count.ensures in
-    let h : refusal ShortSheet ≡ answer o st (orders sheet) = no_sheet o ls bays sheet ordered x c.in-Some.order k c.in-Some.is y.0 ∙ sym through in
-    let p = err_from_is_err_and c.from_residual.result c.from_residual.ensures.1 in
-    rw (p.1, p.2) (record { answer = h; after = ap (moved o st (orders sheet)) h; sheet = y.1 ∙ ap (sheet_by o st (orders sheet)) h })
 
 pub returns : goal.returns
 returns g c =
     let o = g.A.Amount.ops in
-    let w = g.A.Archived.W in
-    let decode = g.A.Archived.decode in
-    let t = c.args.self.now.table in
-    let ls = g.P.Pool.limits c.args.self.now.pile in
-    let st = state o w decode t ls in
+    let b = c.args.self.now in
+    let ls = g.P.Pool.limits b.pile in
+    let st = state (kind_of o g.A.Archived) b.table ls in
     let sheet = c.args.sheet.now in
-    let bays = seen st.rows in
-    let opened = sym c.is_shut.ensures ∙ c.if-is_shut.false in
-    let through = ap (λ b. guard b 1 (order_answer o ls bays sheet ordered)) opened in
-    let x = c.completion_order.result in
-    let k : option_map bays_of x ≡ completing o ls bays = c.completion_order.ensures.order ∙ ap (completing o ls) c.seat_all.ensures in
-    let y = c.in_ok-count.ensures in
-    let n = c.in_ok-count.count in
-    let h : accepted (ordered n) ≡ answer o st (orders sheet) = laid_on o ls bays sheet ordered x c.in-Some.order k c.in-Some.is n y.0 y.1 ∙ sym through in
-    record { answer = h; after = ap (moved o st (orders sheet)) h; sheet = sheet_filled o ls bays sheet ordered x c.in-Some.order k c.in-Some.is _ y.2 ∙ ap (sheet_by o st (orders sheet)) h }
+    let through = ap (λ x. guard x 1 (order_answer o ls (seen st.rows) sheet ordered)) (sym c.is_shut.ensures ∙ c.if-is_shut.false) in
+    let seated = c.seat_all.ensures in
+    let h = c.lay_order.ensures.answer ordered ∙ ap (λ u. order_answer o ls u sheet ordered) seated ∙ sym through in
+    let laid = rw seated at c.lay_order.ensures.sheet in
+    record { served = record { answer = h; after = sym (order_stays o st sheet (answer o st (orders sheet))) }; sheet = order_sheet o st sheet c.lay_order.result _ laid ∙ ap (sheet_by o st (orders sheet)) h }
