@@ -1,7 +1,8 @@
 -- A slip that is out, as the caller has it. Assumes nothing.
-use Rattle.std.specs.Prelude.{◌≡◌, true, false, Some, None, Option}
+use Rattle.std.specs.Prelude.{◌≡◌, true, false, Some, None, Ok, Err, Option, Result}
 use Rattle.law.specs.Book.{State, row, is_moving}
 use Rattle.book.specs.declared.slip.Slip.{Slip}
+use Rattle.book.specs.declared.slip.Unspent.{Unspent}
 
 -- a slip of this book, whose bay moves
 abbrev pub Out : {A : Type 0} → State A → Slip → Type 0
@@ -11,8 +12,7 @@ abbrev pub Held : {A : Type 0} → State A → Option Slip → Type 0
 Held st None = Unit {0}
 Held st (Some p) = Out st p
 
--- handed back, or spent
-abbrev pub Kept : Option Slip → Option Slip → Type 0
-Kept x None = Unit {0}
-Kept None (Some q) = ⊥
-Kept (Some p) (Some q) = q ≡ p
+-- the slip that a refusal hands back, if any
+abbrev pub handed_back : Result (Unit {0}) Unspent → Option Slip
+handed_back (Ok _) = None
+handed_back (Err u) = Some u.slip

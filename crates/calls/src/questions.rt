@@ -45,18 +45,21 @@ const ALL: [u8; 64] = [
 
 #[test]
 fn every_bay_is_open(rt: HostRuntime) -> Result<(), Fail> {
+    let opens = ALL.map(|bay| (Call::Open(bay, bay % 16, 0b0001), Due::Done));
+    let asked: [(Call, Due<'static>); 10] = [
+        (Call::AllIn, Due::Says(true)),
+        (Call::Order, Due::Named(&ALL)),
+        (Call::LongOrder, Due::Named(&ALL)),
+        (Call::ShortOrder, Due::Refused(12)),
+        (Call::Open(64, 0, 0), Due::Refused(2)),
+        (Call::Open(63, 0, 0), Due::Refused(5)),
+        (Call::Ask(0, 0b0001), Due::Named(&ALL)),
+        (Call::Withdraw, Due::Done),
+        (Call::End(63), Due::Done),
+        (Call::Order, Due::Named(&ALL[0..63])),
+    ];
     let mut steps = [(Call::AllIn, Due::Says(true)); 74];
-    for bay in 0..64u8 {
-        steps[bay as usize] = (Call::Open(bay, bay % 16, 0b0001), Due::Done);
-    }
-    steps[65] = (Call::Order, Due::Named(&ALL));
-    steps[66] = (Call::LongOrder, Due::Named(&ALL));
-    steps[67] = (Call::ShortOrder, Due::Refused(12));
-    steps[68] = (Call::Open(64, 0, 0), Due::Refused(2));
-    steps[69] = (Call::Open(63, 0, 0), Due::Refused(5));
-    steps[70] = (Call::Ask(0, 0b0001), Due::Named(&ALL));
-    steps[71] = (Call::Withdraw, Due::Done);
-    steps[72] = (Call::End(63), Due::Done);
-    steps[73] = (Call::Order, Due::Named(&ALL[0..63]));
+    steps[0..64].copy_from_slice(&opens);
+    steps[64..74].copy_from_slice(&asked);
     play_each(&rt, 2, 0b1111, &steps)
 }

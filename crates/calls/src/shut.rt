@@ -2,7 +2,8 @@ use crate::sample::{Sample, Wide};
 use crate::steps::{Call, Due, aside, play};
 use amount::{Modules, Pair, Phases};
 use book::Book;
-use pool::{LimitFault, Pool, Store};
+use pool::{Pool, Store};
+use std::process::Abort;
 use std::test::Fail;
 
 // Every call that needs no slip.
@@ -49,33 +50,26 @@ fn fifteen() -> Store<Phases> {
     Store::new(Phases::of(0b1111))
 }
 
-fn failed(r: Result<(), LimitFault>) -> bool {
-    r.is_err()
-}
-
-#[test]
-fn a_pile_that_is_not_idle_shuts_the_book(rt: HostRuntime) -> Result<(), Fail> {
-    let mut pile = fifteen();
-    assert!(rt; !failed(pile.take(0, Phases::of(1))));
-    let mut shut = Book::new(1, pile);
+// A book that is shut refuses every call; a slip of another book is refused as shut too, whatever numbers the books have.
+fn play_shut<A: Sample, P: Pool<A>>(rt: &impl Abort, mut shut: Book<A, P>) -> Result<(), Fail> {
     play(
-        &rt,
-        "phases",
+        rt,
+        "shut",
         &mut shut,
         &mut Book::new(2, fifteen()),
         &ALL_REFUSED,
     )?;
     // 1 is tested before 13, and before the state of the bay
     play(
-        &rt,
-        "phases, elsewhere",
+        rt,
+        "elsewhere",
         &mut Book::new(2, fifteen()),
         &mut shut,
         &SLIPS,
     )?;
     play(
-        &rt,
-        "phases, of that number",
+        rt,
+        "elsewhere, of that number",
         &mut Book::new(1, fifteen()),
         &mut shut,
         &SLIPS,
@@ -83,9 +77,16 @@ fn a_pile_that_is_not_idle_shuts_the_book(rt: HostRuntime) -> Result<(), Fail> {
 }
 
 #[test]
+fn a_pile_that_is_not_idle_shuts_the_book(rt: HostRuntime) -> Result<(), Fail> {
+    let mut pile = fifteen();
+    pile.take(0, Phases::of(1))?;
+    play_shut(&rt, Book::new(1, pile))
+}
+
+#[test]
 fn a_pile_that_is_idle_again_does_not(rt: HostRuntime) -> Result<(), Fail> {
     let mut pile = fifteen();
-    assert!(rt; !failed(pile.take(0, Phases::of(0))));
+    pile.take(0, Phases::of(0))?;
     play(
         &rt,
         "phases",
@@ -93,8 +94,8 @@ fn a_pile_that_is_idle_again_does_not(rt: HostRuntime) -> Result<(), Fail> {
         &mut aside(),
         &NOT_SHUT,
     )?;
-    assert!(rt; !failed(pile.take(0, Phases::of(1))));
-    assert!(rt; !failed(pile.give(5, Phases::of(1))));
+    pile.take(0, Phases::of(1))?;
+    pile.give(5, Phases::of(1))?;
     play(
         &rt,
         "phases, given back",
@@ -106,28 +107,7 @@ fn a_pile_that_is_idle_again_does_not(rt: HostRuntime) -> Result<(), Fail> {
 
 #[test]
 fn a_kind_wider_than_16_bytes_shuts_the_book(rt: HostRuntime) -> Result<(), Fail> {
-    let mut shut = Book::new(1, Store::new(Wide::of(0b1111)));
-    play(
-        &rt,
-        "wide",
-        &mut shut,
-        &mut Book::new(2, fifteen()),
-        &ALL_REFUSED,
-    )?;
-    play(
-        &rt,
-        "wide, elsewhere",
-        &mut Book::new(2, fifteen()),
-        &mut shut,
-        &SLIPS,
-    )?;
-    play(
-        &rt,
-        "wide, of that number",
-        &mut Book::new(1, fifteen()),
-        &mut shut,
-        &SLIPS,
-    )
+    play_shut(&rt, Book::new(1, Store::new(Wide::of(0b1111))))
 }
 
 #[test]

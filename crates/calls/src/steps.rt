@@ -1,6 +1,6 @@
 ghost use Rattle.std.specs.Prelude.{◌≡◌};
 ghost use Rattle.book.specs.Books.{state_of};
-ghost use Rattle.calls.specs.Held.{Held, Kept};
+ghost use Rattle.calls.specs.Held.{Held, handed_back};
 
 use crate::sample::Sample;
 use amount::{Amount, Modules, Pair, Phases};
@@ -48,34 +48,28 @@ pub(crate) enum Due<'a> {
     At(u8, u8),
 }
 
-#[derive(Clone, Copy)]
-enum Answer {
+// What an accepted call answers.
+#[derive(Clone, Copy, Debug, PartialEq, Eq)]
+enum Reply {
     Done,
     Named(usize),
     Says(bool),
-    Refused(Refusal),
-    // there is no slip to spend
-    NoSlip,
 }
+
+// What came of a call; absent where there is no slip to spend.
+type Answer = Option<Result<Reply, Refusal>>;
 
 fn done(r: Result<(), Refusal>) -> Answer {
-    match r {
-        Ok(()) => Answer::Done,
-        Err(refusal) => Answer::Refused(refusal),
-    }
+    Some(r.map(|()| Reply::Done))
 }
 
-fn named(r: Result<usize, Refusal>) -> Answer {
+// What came of spending a slip, and the slip where it was handed back.
+fn spent(r: Result<(), Unspent>) -> (Answer, Option<Slip>)
+    ensures { result.1 ≡ handed_back r }
+{
     match r {
-        Ok(count) => Answer::Named(count),
-        Err(refusal) => Answer::Refused(refusal),
-    }
-}
-
-fn says(r: Result<bool, Refusal>) -> Answer {
-    match r {
-        Ok(yes) => Answer::Says(yes),
-        Err(refusal) => Answer::Refused(refusal),
+        Ok(()) => (Some(Ok(Reply::Done)), None),
+        Err(Unspent { refusal, slip }) => (Some(Err(refusal)), Some(slip)),
     }
 }
 
@@ -96,58 +90,28 @@ fn serve<A: Sample, P: Pool<A>>(
             A::of(n),
             sheet,
         ) {
-            Err(refusal) => (Answer::Refused(refusal), held),
+            Err(refusal) => (Some(Err(refusal)), held),
             Ok(Grant { count, slip }) => match held {
-                None => (Answer::Named(count), Some(slip)),
+                None => (Some(Ok(Reply::Named(count))), Some(slip)),
                 Some(_other) => unreachable(),
             },
         },
         Call::Confirm => match held {
-            None => (Answer::NoSlip, None),
-            Some(slip) => match book.confirm(slip) {
-                Ok(()) => (Answer::Done, None),
-                Err(Unspent { refusal, slip }) => (Answer::Refused(refusal), Some(slip)),
-            },
+            None => (None, None),
+            Some(slip) => spent(book.confirm(slip)),
         },
         Call::Withdraw => match held {
-            None => (Answer::NoSlip, None),
-            Some(slip) => match book.withdraw(slip) {
-                Ok(()) => (Answer::Done, None),
-                Err(Unspent { refusal, slip }) => (Answer::Refused(refusal), Some(slip)),
-            },
+            None => (None, None),
+            Some(slip) => spent(book.withdraw(slip)),
         },
         Call::Give(bay, n) => (done(book.give(bay, A::of(n))), held),
         Call::End(bay) => (done(book.end(bay)), held),
-        Call::Order | Call::ShortOrder | Call::LongOrder => (named(book.order(sheet)), held),
-        Call::AllIn => (says(book.all_in()), held),
-        Call::ConfirmThere | Call::WithdrawThere | Call::OpenThere(_, _, _) => (
-            Answer::NoSlip,
+        Call::Order | Call::ShortOrder | Call::LongOrder => (
+            Some(book.order(sheet).map(Reply::Named)),
             held,
         ),
-    }
-}
-
-// A slip spent at another book than its own.
-fn spend_there<A: Archived, P: Pool<A>>(
-    book: &mut Book<A, P>,
-    held: Option<Slip>,
-    withdraws: bool,
-) -> (Answer, Option<Slip>)
-    ensures { Kept held result.1 }
-{
-    match held {
-        None => (Answer::NoSlip, None),
-        Some(slip) => {
-            let spent = if withdraws {
-                book.withdraw(slip)
-            } else {
-                book.confirm(slip)
-            };
-            match spent {
-                Ok(()) => (Answer::Done, None),
-                Err(Unspent { refusal, slip }) => (Answer::Refused(refusal), Some(slip)),
-            }
-        }
+        Call::AllIn => (Some(book.all_in().map(Reply::Says)), held),
+        Call::ConfirmThere | Call::WithdrawThere | Call::OpenThere(_, _, _) => (None, held),
     }
 }
 
@@ -168,11 +132,11 @@ fn settle<A: Archived, P: Pool<A>>(book: &mut Book<A, P>, held: Option<Slip>)
 const BLANK: u8 = 0xEE;
 
 // What the questions answer, with the sheet of the order.
-#[derive(Clone, Copy)]
+#[derive(Clone, Copy, Debug, PartialEq, Eq)]
 struct Glance {
-    named: u8,
+    order: Result<usize, Refusal>,
     sheet: [u8; 64],
-    all_in: u8,
+    all_in: Result<bool, Refusal>,
 }
 
 // The questions leave the book as it was.
@@ -180,55 +144,36 @@ fn seen_at<A: Archived, P: Pool<A>>(book: &mut Book<A, P>) -> Glance
     ensures { state_of A.Archived P.Pool.limits book.new ≡ state_of A.Archived P.Pool.limits book.old }
 {
     let mut sheet = [BLANK; 64];
-    let named = match book.order(&mut sheet) {
-        Ok(_) => 0,
-        Err(refusal) => refusal.number(),
-    };
-    let all_in = match book.all_in() {
-        Ok(true) => 0,
-        Ok(false) => 15,
-        Err(refusal) => refusal.number(),
-    };
+    let order = book.order(&mut sheet);
+    let all_in = book.all_in();
     Glance {
-        named,
+        order,
         sheet,
         all_in,
     }
 }
 
-fn alike(a: &Glance, b: &Glance) -> bool {
-    a.named == b.named && a.all_in == b.all_in && a.sheet == b.sheet
-}
-
 // Whether the sheet has the order in front, and is as it was behind it.
 fn laid(sheet: &[u8; 80], order: &[u8]) -> bool {
-    for i in 0..80usize {
-        let due = if i < order.len() { order[i] } else { BLANK };
-        if sheet[i] != due {
-            return false;
-        }
-    }
-    true
+    sheet.starts_with(order) && sheet.iter().skip(order.len()).all(|byte| *byte == BLANK)
 }
 
 // Whether the answer and the sheet are as is due.
 fn right(answer: Answer, sheet: &[u8; 80], due: Due) -> bool {
     match (answer, due) {
-        (Answer::Done, Due::Done) => laid(sheet, &[]),
-        (Answer::Named(count), Due::Named(order)) => count == order.len() && laid(sheet, order),
-        (Answer::Says(yes), Due::Says(all)) => yes == all && laid(sheet, &[]),
-        (Answer::Refused(refusal), Due::Refused(number)) => {
+        (Some(Ok(Reply::Done)), Due::Done) => laid(sheet, &[]),
+        (Some(Ok(Reply::Named(count))), Due::Named(order)) => {
+            count == order.len() && laid(sheet, order)
+        }
+        (Some(Ok(Reply::Says(yes))), Due::Says(all)) => yes == all && laid(sheet, &[]),
+        (Some(Err(refusal)), Due::Refused(number)) => {
             refusal.number() == number && refusal.place() == None && laid(sheet, &[])
         }
-        (Answer::Refused(refusal), Due::At(number, place)) => {
+        (Some(Err(refusal)), Due::At(number, place)) => {
             refusal.number() == number && refusal.place() == Some(place) && laid(sheet, &[])
         }
         _ => false,
     }
-}
-
-fn is_refusal(answer: Answer) -> bool {
-    matches!(answer, Answer::Refused(_))
 }
 
 // One call at its book, on a sheet of 64 bytes unless the call says otherwise.
@@ -243,8 +188,14 @@ fn made<A: Sample, P: Pool<A>, B: Sample, Q: Pool<B>>(
     ensures { Held (state_of A.Archived P.Pool.limits book.new) result.1 }
 {
     match call {
-        Call::ConfirmThere => spend_there(other, held, false),
-        Call::WithdrawThere => spend_there(other, held, true),
+        Call::ConfirmThere => match held {
+            None => (None, None),
+            Some(slip) => spent(other.confirm(slip)),
+        },
+        Call::WithdrawThere => match held {
+            None => (None, None),
+            Some(slip) => spent(other.withdraw(slip)),
+        },
         Call::OpenThere(bay, mark, n) => (done(other.open(bay, mark, B::of(n))), held),
         Call::ShortAsk(_, _) | Call::ShortOrder => serve(book, held, call, &mut sheet[0..63]),
         Call::LongAsk(_, _) | Call::LongOrder => serve(book, held, call, &mut sheet[0..80]),
@@ -267,18 +218,9 @@ fn turn<A: Sample, P: Pool<A>, B: Sample, Q: Pool<B>>(
     let there = seen_at(other);
     let mut sheet = [BLANK; 80];
     let (answer, next) = made(book, other, held, call, &mut sheet);
-    let same = alike(&here, &seen_at(book)) && alike(&there, &seen_at(other));
-    (
-        right(answer, &sheet, due) && (same || !is_refusal(answer)),
-        next,
-    )
-}
-
-fn noted(wrong: Option<usize>, i: usize, right: bool) -> Option<usize> {
-    match wrong {
-        Some(first) => Some(first),
-        None => if right { None } else { Some(i) },
-    }
+    let same = here == seen_at(book) && there == seen_at(other);
+    let refused = matches!(answer, Some(Err(_)));
+    (right(answer, &sheet, due) && (same || !refused), next)
 }
 
 // Makes the calls in turn: each is answered as is due.
@@ -291,11 +233,10 @@ pub(crate) fn play<A: Sample, P: Pool<A>, B: Sample, Q: Pool<B>>(
 ) -> Result<(), Fail> {
     let mut held = None;
     let mut wrong = None;
-    for i in 0..steps.len() {
-        let (call, due) = steps[i];
+    for (i, &(call, due)) in steps.iter().enumerate() {
         let (right, next) = turn(book, other, held, call, due);
         held = next;
-        wrong = noted(wrong, i, right);
+        wrong = wrong.or((!right).then_some(i));
     }
     settle(book, held);
     assert_eq!(rt;
@@ -340,10 +281,7 @@ pub(crate) fn play_each(
 fn pile<A: Sample>() -> Result<Reserve<A, Cap<A, Store<A>>>, Fail> {
     let store = Store::new(A::of(0x00FF_0000_0000_00FF));
     let cap = Cap::new(store, 6, A::of(0x000F_0000_0000_000F));
-    match Reserve::new(cap, 0, A::of(0x0080_0000_0000_0080)) {
-        Ok(pile) => Ok(pile),
-        Err(_) => Err(Fail::new("tall reserve")),
-    }
+    Reserve::new(cap, 0, A::of(0x0080_0000_0000_0080)).map_err(|_| Fail::new("tall reserve"))
 }
 
 // A book that no call is made at.

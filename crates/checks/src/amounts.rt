@@ -1,78 +1,53 @@
 use amount::{Amount, Amps, Modules, Pair, Phases};
-use archive::Archived;
-
-fn phases(l1: u16, l2: u16, l3: u16) -> Phases {
-    Phases {
-        l1: Amps { value: l1 },
-        l2: Amps { value: l2 },
-        l3: Amps { value: l3 },
-    }
-}
-
-fn modules(names: u64) -> Modules {
-    Modules { names }
-}
-
-// Whether the option holds this amount.
-fn is<A: Amount>(found: Option<A>, amount: A) -> bool {
-    match found {
-        Some(a) => a.same(amount),
-        None => false,
-    }
-}
+use archive::{Archived, WrongLength};
 
 #[test]
 fn counts_reach_65535(rt: HostRuntime) {
-    let one = phases(1, 0, 0);
-    assert!(rt; is(phases(65534, 2, 3).plus(one), phases(65535, 2, 3)));
-    assert!(rt; phases(65535, 2, 3).plus(one).is_none());
-    assert!(rt; is(phases(1, 0, 0).minus(one), Phases::zero()));
-    assert!(rt; phases(0, 9, 9).minus(one).is_none());
+    let one = Phases::from([1, 0, 0]);
+    assert_eq!(rt; Phases::from([65534, 2, 3]).plus(one), Some(Phases::from([65535, 2, 3])));
+    assert_eq!(rt; Phases::from([65535, 2, 3]).plus(one), None);
+    assert_eq!(rt; Phases::from([1, 0, 0]).minus(one), Some(Phases::zero()));
+    assert_eq!(rt; Phases::from([0, 9, 9]).minus(one), None);
 }
 
 #[test]
 fn one_phase_too_many_undoes_the_sum(rt: HostRuntime) {
-    assert!(rt; phases(0, 65535, 0).plus(phases(0, 1, 0)).is_none());
-    assert!(rt; phases(0, 0, 1).plus(phases(0, 0, 65535)).is_none());
-    assert!(rt;
-        is(
-            phases(20, 20, 20).minus(phases(12, 0, 20)),
-            phases(8, 20, 0),
-        )
-    );
-    assert!(rt; phases(20, 20, 20).minus(phases(0, 0, 21)).is_none());
-    assert!(rt; !phases(1, 2, 3).same(phases(1, 3, 2)));
+    assert_eq!(rt; Phases::from([0, 65535, 0]).plus(Phases::from([0, 1, 0])), None);
+    assert_eq!(rt; Phases::from([0, 0, 1]).plus(Phases::from([0, 0, 65535])), None);
+    assert_eq!(rt; Phases::from([20, 20, 20]).minus(Phases::from([12, 0, 20])), Some(Phases::from([8, 20, 0])));
+    assert_eq!(rt; Phases::from([20, 20, 20]).minus(Phases::from([0, 0, 21])), None);
+    assert!(rt; !Phases::from([1, 2, 3]).same(Phases::from([1, 3, 2])));
 }
 
 #[test]
 fn modules_go_by_name(rt: HostRuntime) {
-    let highest = modules(0x8000_0000_0000_0000);
-    assert!(rt; is(modules(0b100001).plus(modules(0b100)), modules(0b100101)));
-    assert!(rt; modules(0b100001).plus(modules(0b10100000 | 1)).is_none());
-    assert!(rt; is(modules(1).plus(highest), modules(0x8000_0000_0000_0001)));
-    assert!(rt; is(modules(0b100101).minus(modules(0b100)), modules(0b100001)));
-    assert!(rt; modules(0b100001).minus(modules(0b100)).is_none());
-    assert!(rt; is(highest.minus(highest), Modules::zero()));
+    let highest = Modules::from(0x8000_0000_0000_0000);
+    assert_eq!(rt; Modules::from(0b100001).plus(Modules::from(0b100)), Some(Modules::from(0b100101)));
+    assert_eq!(rt; Modules::from(0b100001).plus(Modules::from(0b10100000 | 1)), None);
+    assert_eq!(rt; Modules::from(1).plus(highest), Some(Modules::from(0x8000_0000_0000_0001)));
+    assert_eq!(rt; Modules::from(0b100101).minus(Modules::from(0b100)), Some(Modules::from(0b100001)));
+    assert_eq!(rt; Modules::from(0b100001).minus(Modules::from(0b100)), None);
+    assert_eq!(rt; highest.minus(highest), Some(Modules::zero()));
 }
 
 #[test]
 fn a_pair_needs_both_sides(rt: HostRuntime) {
     let a = Pair {
-        left: phases(10, 0, 0),
-        right: modules(0b10),
+        left: Phases::from([10, 0, 0]),
+        right: Modules::from(0b10),
     };
     let b = Pair {
-        left: phases(5, 0, 0),
-        right: modules(0b100),
+        left: Phases::from([5, 0, 0]),
+        right: Modules::from(0b100),
     };
     let c = Pair {
-        left: phases(15, 0, 0),
-        right: modules(0b110),
+        left: Phases::from([15, 0, 0]),
+        right: Modules::from(0b110),
     };
-    assert!(rt; is(a.plus(b), c));
-    assert!(rt; a.plus(a).is_none());
-    assert!(rt; is(c.minus(a), b));
-    assert!(rt; b.minus(a).is_none());
+    assert_eq!(rt; a.plus(b), Some(c));
+    assert_eq!(rt; a.plus(a), None);
+    assert_eq!(rt; c.minus(a), Some(b));
+    assert_eq!(rt; b.minus(a), None);
 }
 
 #[test]
@@ -95,31 +70,31 @@ fn widths_add_up_to_16(rt: HostRuntime) {
 fn amounts_read_and_write_their_bytes(rt: HostRuntime) {
     let bytes = [0, 16, 0, 0, 1, 44, 0x80, 0, 0, 0, 0, 0, 0, 0x21];
     let pair = Pair {
-        left: phases(16, 0, 300),
-        right: modules(0x8000_0000_0000_0021),
+        left: Phases::from([16, 0, 300]),
+        right: Modules::from(0x8000_0000_0000_0021),
     };
-    assert!(rt; is(Pair::<Phases, Modules>::read(&bytes), pair));
+    assert_eq!(rt; Pair::<Phases, Modules>::read(&bytes), Some(pair));
     let mut place = [7; 14];
-    assert!(rt; pair.write(&mut place).is_ok());
+    assert_eq!(rt; pair.write(&mut place), Ok(()));
     assert!(rt; place == bytes);
-    assert!(rt; Pair::<Phases, Modules>::read(&bytes[0..13]).is_none());
-    assert!(rt; pair.write(&mut place[0..13]).is_err());
+    assert_eq!(rt; Pair::<Phases, Modules>::read(&bytes[0..13]), None);
+    assert_eq!(rt; pair.write(&mut place[0..13]), Err(WrongLength));
     assert!(rt; place == bytes);
 }
 
 #[test]
 fn wide_amounts_are_never_written(rt: HostRuntime) {
     let wide = Pair {
-        left: modules(1),
+        left: Modules::from(1),
         right: Pair {
-            left: modules(2),
-            right: phases(1, 2, 3),
+            left: Modules::from(2),
+            right: Phases::from([1, 2, 3]),
         },
     };
     let mut place = [7; 22];
-    assert!(rt; wide.write(&mut place).is_err());
+    assert_eq!(rt; wide.write(&mut place), Err(WrongLength));
     assert!(rt; place == [7; 22]);
-    assert!(rt; wide.write(&mut place[0..17]).is_err());
+    assert_eq!(rt; wide.write(&mut place[0..17]), Err(WrongLength));
     assert!(rt; place == [7; 22]);
-    assert!(rt; Pair::<Modules, Pair<Modules, Phases>>::read(&place).is_none());
+    assert_eq!(rt; Pair::<Modules, Pair<Modules, Phases>>::read(&place), None);
 }

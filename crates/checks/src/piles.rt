@@ -1,18 +1,9 @@
-use amount::{Amount, Amps, Modules, Pair, Phases};
+use amount::{Amount, Modules, Pair, Phases};
 use pool::{Cap, LimitFault, Pool, Reserve, Store};
 use std::test::Fail;
 
 fn amps(n: u16) -> Phases {
-    let each = Amps { value: n };
-    Phases {
-        l1: each,
-        l2: each,
-        l3: each,
-    }
-}
-
-fn modules(names: u64) -> Modules {
-    Modules { names }
+    Phases::from([n; 3])
 }
 
 // Amounts by a number, so that a table of calls is plain.
@@ -29,7 +20,7 @@ impl Sample for Phases {
 
 impl Sample for Modules {
     fn of(n: u64) -> Modules {
-        modules(n)
+        Modules::from(n)
     }
 }
 
@@ -38,7 +29,7 @@ impl Sample for Pair<Phases, Modules> {
     fn of(n: u64) -> Pair<Phases, Modules> {
         Pair {
             left: amps((n & 0xFF) as u16),
-            right: modules(n >> 8),
+            right: Modules::from(n >> 8),
         }
     }
 }
@@ -55,12 +46,9 @@ enum Step {
     Idle(bool),
 }
 
-// The place that a change is refused at.
-fn place(r: Result<(), LimitFault>) -> Option<u8> {
-    match r {
-        Ok(()) => None,
-        Err(fault) => Some(fault.place),
-    }
+// What a change answers that is refused at this place, if any.
+fn refused_at(place: Option<u8>) -> Result<(), LimitFault> {
+    place.map_or(Ok(()), |place| Err(LimitFault { place }))
 }
 
 // Whether the call is answered as is due.
@@ -68,8 +56,8 @@ fn answers<A: Sample, P: Pool<A>>(pile: &mut P, step: Step) -> bool {
     match step {
         Step::Tall(mark, n, due) => pile.tall(mark, A::of(n)) == due,
         Step::Short(mark, n, due) => pile.short(mark, A::of(n)) == due,
-        Step::Take(mark, n, due) => place(pile.take(mark, A::of(n))) == due,
-        Step::Give(mark, n, due) => place(pile.give(mark, A::of(n))) == due,
+        Step::Take(mark, n, due) => pile.take(mark, A::of(n)) == refused_at(due),
+        Step::Give(mark, n, due) => pile.give(mark, A::of(n)) == refused_at(due),
         Step::Whole(due) => pile.whole().same(A::of(due)),
         Step::Count(due) => pile.count() == due,
         Step::Idle(due) => pile.idle() == due,
@@ -78,12 +66,7 @@ fn answers<A: Sample, P: Pool<A>>(pile: &mut P, step: Step) -> bool {
 
 // How many of the calls are answered as is due, up to the first that is not.
 fn play<A: Sample, P: Pool<A>>(pile: &mut P, steps: &[Step]) -> usize {
-    for (i, step) in steps.iter().enumerate() {
-        if !answers(pile, *step) {
-            return i;
-        }
-    }
-    steps.len()
+    steps.iter().take_while(|step| answers(pile, **step)).count()
 }
 
 // A refusal of another kind, into which a limit's fault travels by `?`.
@@ -107,10 +90,8 @@ fn taken<A: Amount, P: Pool<A>>(pile: &mut P, mark: u8, amount: A) -> Result<u8,
 type Pile = Reserve<Phases, Cap<Phases, Store<Phases>>>;
 
 fn worked() -> Result<Pile, Fail> {
-    match Reserve::new(Cap::new(Store::new(amps(32)), 6, amps(24)), 0, amps(4)) {
-        Ok(pile) => Ok(pile),
-        Err(_) => Err(Fail::new("tall reserve")),
-    }
+    Reserve::new(Cap::new(Store::new(amps(32)), 6, amps(24)), 0, amps(4))
+        .map_err(|_| Fail::new("tall reserve"))
 }
 
 #[test]
@@ -215,11 +196,11 @@ fn a_tall_reserve_hands_the_pile_back(rt: HostRuntime) -> Result<(), Fail> {
         Step::Tall(2, 0b1000, Some(1)),
         Step::Tall(3, 0b1000, None),
     ];
-    let Err(tall) = Reserve::new(Store::new(modules(0b1111)), 3, modules(0b10001)) else {
+    let Err(tall) = Reserve::new(Store::new(Modules::from(0b1111)), 3, Modules::from(0b10001)) else {
         return Err(Fail::new("made"));
     };
     assert_eq!(rt; tall.number(), 15);
-    let Ok(mut pile) = Reserve::new(tall.pile, 3, modules(0b1000)) else {
+    let Ok(mut pile) = Reserve::new(tall.pile, 3, Modules::from(0b1000)) else {
         return Err(Fail::new("refused"));
     };
     assert_eq!(rt; play(&mut pile, &STEPS), 3);
@@ -236,14 +217,14 @@ fn modules_are_limited_by_name(rt: HostRuntime) {
         Step::Give(0, 0b0010, Some(0)),
         Step::Give(0, 0b0001, None),
     ];
-    let mut pile = Cap::new(Store::new(modules(0b1111)), 1, modules(0b0011));
+    let mut pile = Cap::new(Store::new(Modules::from(0b1111)), 1, Modules::from(0b0011));
     assert_eq!(rt; play(&mut pile, &STEPS), 6);
 }
 
 fn both(n: u16, names: u64) -> Pair<Phases, Modules> {
     Pair {
         left: amps(n),
-        right: modules(names),
+        right: Modules::from(names),
     }
 }
 

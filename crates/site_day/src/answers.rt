@@ -2,21 +2,24 @@ use rows::Refusal;
 use std::fmt;
 
 // An order: the bays on the front of a sheet.
-#[derive(Clone, Copy)]
+#[derive(Clone, Copy, Debug, PartialEq, Eq)]
 pub struct Order {
     pub count: usize,
     pub sheet: [u8; 64],
 }
 
-// What a call of the book answers.
-#[derive(Clone, Copy)]
-pub enum Answer {
+// What an accepted call of the book answers.
+#[derive(Clone, Copy, Debug, PartialEq, Eq)]
+pub enum Accepted {
     Done,
     Granted(Order),
     Ordered(Order),
     AllIn(bool),
-    Refused(Refusal),
 }
+
+// What a call of the book answers, to be told.
+#[derive(Clone, Copy)]
+pub struct Answer(pub Result<Accepted, Refusal>);
 
 impl fmt::Display for Order {
     fn fmt<W: fmt::Write>(&self, f: &mut fmt::Formatter<W>) -> fmt::Result {
@@ -30,15 +33,23 @@ impl fmt::Display for Order {
     }
 }
 
-impl fmt::Display for Answer {
+impl fmt::Display for Accepted {
     fn fmt<W: fmt::Write>(&self, f: &mut fmt::Formatter<W>) -> fmt::Result {
         match self {
-            Answer::Done => f.write_str("done"),
-            Answer::Granted(order) => write!(f, "granted, order {order}"),
-            Answer::Ordered(order) => write!(f, "{order}"),
-            Answer::AllIn(true) => f.write_str("yes"),
-            Answer::AllIn(false) => f.write_str("no"),
-            Answer::Refused(refusal) => {
+            Accepted::Done => f.write_str("done"),
+            Accepted::Granted(order) => write!(f, "granted, order {order}"),
+            Accepted::Ordered(order) => write!(f, "{order}"),
+            Accepted::AllIn(true) => f.write_str("yes"),
+            Accepted::AllIn(false) => f.write_str("no"),
+        }
+    }
+}
+
+impl fmt::Display for Answer {
+    fn fmt<W: fmt::Write>(&self, f: &mut fmt::Formatter<W>) -> fmt::Result {
+        match &self.0 {
+            Ok(accepted) => write!(f, "{accepted}"),
+            Err(refusal) => {
                 let number = refusal.number();
                 match refusal.place() {
                     Some(place) => write!(f, "refused {number} at place {place}"),

@@ -2,10 +2,12 @@
 #![tactic(auto)]
 
 mod answers;
+mod contactor;
+mod desk;
 mod portions;
-mod steps;
 
-use crate::steps::{ask_confirmed, ask_withdrawn, end, give, open, tell_all_in, tell_order};
+use crate::contactor::Contactor;
+use crate::desk::Desk;
 use amount::{Amps, Phases};
 use book::Book;
 use pool::{Cap, Pool, Reserve, Store, TallReserve};
@@ -36,24 +38,24 @@ fn site() -> Result<Reserve<Phases, Hall>, TallReserve<Hall>> {
     Reserve::new(cap, HOUSE, amps(4))
 }
 
-fn day<P: Pool<Phases>>(rt: &HostRuntime, book: &mut Book<Phases, P>) -> io::Result<()> {
-    open(rt, book, 3, 1, 20)?;
-    open(rt, book, 5, 2, 16)?;
-    ask_confirmed(rt, book, 3, 12)?;
-    ask_confirmed(rt, book, 5, 8)?;
-    ask_confirmed(rt, book, 5, 13)?;
-    ask_withdrawn(rt, book, 3, 8)?;
-    give(rt, book, 3, 4)?;
-    tell_order(rt, book)?;
-    tell_all_in(rt, book)?;
-    end(rt, book, 3)?;
-    tell_order(rt, book)?;
-    tell_all_in(rt, book)
+fn day<R: Print, P: Pool<Phases>>(mut desk: Desk<'_, R, P>) -> io::Result<()> {
+    desk.open(3, 1, 20)?;
+    desk.open(5, 2, 16)?;
+    desk.ask(3, 12, Contactor::Closes)?;
+    desk.ask(5, 8, Contactor::Closes)?;
+    desk.ask(5, 13, Contactor::Closes)?;
+    desk.ask(3, 8, Contactor::Fails)?;
+    desk.give(3, 4)?;
+    desk.tell_order()?;
+    desk.tell_all_in()?;
+    desk.end(3)?;
+    desk.tell_order()?;
+    desk.tell_all_in()
 }
 
 fn main(rt: HostRuntime) -> io::Result<()> {
     match site() {
-        Ok(pile) => day(&rt, &mut Book::new(1, pile)),
+        Ok(pile) => day(Desk::new(&rt, Book::new(1, pile))),
         Err(tall) => println!(rt; "site: refused {}", tall.number()),
     }
 }
