@@ -4,7 +4,10 @@ use archive::{Archived, WrongLength};
 #[test]
 fn counts_reach_65535(rt: HostRuntime) {
     let one = Phases::from([1, 0, 0]);
-    assert_eq!(rt; Phases::from([65534, 2, 3]).plus(one), Some(Phases::from([65535, 2, 3])));
+    assert_eq!(rt;
+        Phases::from([65534, 2, 3]).plus(one),
+        Some(Phases::from([65535, 2, 3]))
+    );
     assert_eq!(rt; Phases::from([65535, 2, 3]).plus(one), None);
     assert_eq!(rt; Phases::from([1, 0, 0]).minus(one), Some(Phases::zero()));
     assert_eq!(rt; Phases::from([0, 9, 9]).minus(one), None);
@@ -12,20 +15,44 @@ fn counts_reach_65535(rt: HostRuntime) {
 
 #[test]
 fn one_phase_too_many_undoes_the_sum(rt: HostRuntime) {
-    assert_eq!(rt; Phases::from([0, 65535, 0]).plus(Phases::from([0, 1, 0])), None);
-    assert_eq!(rt; Phases::from([0, 0, 1]).plus(Phases::from([0, 0, 65535])), None);
-    assert_eq!(rt; Phases::from([20, 20, 20]).minus(Phases::from([12, 0, 20])), Some(Phases::from([8, 20, 0])));
-    assert_eq!(rt; Phases::from([20, 20, 20]).minus(Phases::from([0, 0, 21])), None);
+    assert_eq!(rt;
+        Phases::from([0, 65535, 0]).plus(Phases::from([0, 1, 0])),
+        None
+    );
+    assert_eq!(rt;
+        Phases::from([0, 0, 1]).plus(Phases::from([0, 0, 65535])),
+        None
+    );
+    assert_eq!(rt;
+        Phases::from([20, 20, 20]).minus(Phases::from([12, 0, 20])),
+        Some(Phases::from([8, 20, 0]))
+    );
+    assert_eq!(rt;
+        Phases::from([20, 20, 20]).minus(Phases::from([0, 0, 21])),
+        None
+    );
     assert!(rt; !Phases::from([1, 2, 3]).same(Phases::from([1, 3, 2])));
 }
 
 #[test]
 fn modules_go_by_name(rt: HostRuntime) {
     let highest = Modules::from(0x8000_0000_0000_0000);
-    assert_eq!(rt; Modules::from(0b100001).plus(Modules::from(0b100)), Some(Modules::from(0b100101)));
-    assert_eq!(rt; Modules::from(0b100001).plus(Modules::from(0b10100000 | 1)), None);
-    assert_eq!(rt; Modules::from(1).plus(highest), Some(Modules::from(0x8000_0000_0000_0001)));
-    assert_eq!(rt; Modules::from(0b100101).minus(Modules::from(0b100)), Some(Modules::from(0b100001)));
+    assert_eq!(rt;
+        Modules::from(0b100001).plus(Modules::from(0b100)),
+        Some(Modules::from(0b100101))
+    );
+    assert_eq!(rt;
+        Modules::from(0b100001).plus(Modules::from(0b10100000 | 1)),
+        None
+    );
+    assert_eq!(rt;
+        Modules::from(1).plus(highest),
+        Some(Modules::from(0x8000_0000_0000_0001))
+    );
+    assert_eq!(rt;
+        Modules::from(0b100101).minus(Modules::from(0b100)),
+        Some(Modules::from(0b100001))
+    );
     assert_eq!(rt; Modules::from(0b100001).minus(Modules::from(0b100)), None);
     assert_eq!(rt; highest.minus(highest), Some(Modules::zero()));
 }
@@ -60,10 +87,7 @@ fn widths_add_up_to_16(rt: HostRuntime) {
     assert_eq!(rt; Pair::<Modules, Modules>::W, 16);
     assert_eq!(rt; Pair::<Pair<Phases, Modules>, Amps>::W, 16);
     assert_eq!(rt; Pair::<Pair<Modules, Modules>, Amps>::W, 17);
-    assert_eq!(rt;
-        Pair::<Amps, Pair<Modules, Pair<Modules, Amps>>>::W,
-        17
-    );
+    assert_eq!(rt; Pair::<Amps, Pair<Modules, Pair<Modules, Amps>>>::W, 17);
 }
 
 #[test]

@@ -10,12 +10,19 @@ fn ending(file: &[u8]) -> Result<usize, (u8, usize)> {
     // each record but the last takes a byte at least
     for _ in 0..file.len() {
         let at = reader.position();
-        if reader.next_record().map_err(|fault| (fault.number(), at))?.is_none() {
+        if reader
+            .next_record()
+            .map_err(|fault| (fault.number(), at))?
+            .is_none()
+        {
             return Ok(at);
         }
     }
     let at = reader.position();
-    reader.next_record().map(|_| at).map_err(|fault| (fault.number(), at))
+    reader
+        .next_record()
+        .map(|_| at)
+        .map_err(|fault| (fault.number(), at))
 }
 
 // Where the record begins that has its last byte at `at` or behind it.
@@ -30,7 +37,10 @@ fn every_cut_is_answered(rt: HostRuntime) {
     for cut in 0..91 {
         let at = begins(cut);
         let through = cut >= 24 && at == cut;
-        assert_eq!(rt; ending(&day[0..cut]), if through { Ok(at) } else { Err((17, at)) });
+        assert_eq!(rt;
+            ending(&day[0..cut]),
+            if through { Ok(at) } else { Err((17, at)) }
+        );
     }
 }
 
@@ -40,7 +50,10 @@ fn every_other_kind_is_unknown_behind_the_head(rt: HostRuntime) {
         let mut file = *DAY;
         file[24] = kind;
         let known = (0x10..=0x14).contains(&kind);
-        assert_eq!(rt; ending(&file[0..25]), Err((if known { 17 } else { 16 }, 24)));
+        assert_eq!(rt;
+            ending(&file[0..25]),
+            Err((if known { 17 } else { 16 }, 24))
+        );
     }
 }
 
@@ -49,7 +62,10 @@ fn every_other_kind_is_wrong_in_the_head(rt: HostRuntime) {
     for kind in 0..=255u8 {
         let mut file = *DAY;
         file[7] = kind;
-        assert_eq!(rt; ending(&file), if kind == 2 { Ok(90) } else { Err((18, 7)) });
+        assert_eq!(rt;
+            ending(&file),
+            if kind == 2 { Ok(90) } else { Err((18, 7)) }
+        );
     }
 }
 

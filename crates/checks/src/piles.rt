@@ -66,7 +66,10 @@ fn answers<A: Sample, P: Pool<A>>(pile: &mut P, step: Step) -> bool {
 
 // How many of the calls are answered as is due, up to the first that is not.
 fn play<A: Sample, P: Pool<A>>(pile: &mut P, steps: &[Step]) -> usize {
-    steps.iter().take_while(|step| answers(pile, **step)).count()
+    steps
+        .iter()
+        .take_while(|step| answers(pile, **step))
+        .count()
 }
 
 // A refusal of another kind, into which a limit's fault travels by `?`.
@@ -90,8 +93,9 @@ fn taken<A: Amount, P: Pool<A>>(pile: &mut P, mark: u8, amount: A) -> Result<u8,
 type Pile = Reserve<Phases, Cap<Phases, Store<Phases>>>;
 
 fn worked() -> Result<Pile, Fail> {
-    Reserve::new(Cap::new(Store::new(amps(32)), 6, amps(24)), 0, amps(4))
-        .map_err(|_| Fail::new("tall reserve"))
+    Reserve::new(Cap::new(Store::new(amps(32)), 6, amps(24)), 0, amps(4)).map_err(|_| Fail::new(
+        "tall reserve",
+    ))
 }
 
 #[test]
@@ -196,7 +200,8 @@ fn a_tall_reserve_hands_the_pile_back(rt: HostRuntime) -> Result<(), Fail> {
         Step::Tall(2, 0b1000, Some(1)),
         Step::Tall(3, 0b1000, None),
     ];
-    let Err(tall) = Reserve::new(Store::new(Modules::from(0b1111)), 3, Modules::from(0b10001)) else {
+    let Err(tall) = Reserve::new(Store::new(Modules::from(0b1111)), 3, Modules::from(0b10001))
+    else {
         return Err(Fail::new("made"));
     };
     assert_eq!(rt; tall.number(), 15);
