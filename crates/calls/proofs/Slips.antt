@@ -12,7 +12,7 @@ use Rattle.law.proofs.Rows.{refused_accepted, pass, pass_at, row_rest, nowhere, 
 use Rattle.book.proofs.Read.{calm}
 use Rattle.book.specs.Replies.{slip_of}
 use Rattle.book.specs.declared.slip.Slip.{Slip}
-use Rattle.calls.specs.Held.{Out, Held, Kept}
+use Rattle.calls.specs.Held.{Out, Held}
 
 abbrev Refused : Answer → Type 0
 Refused (refused k p) = Unit {0}
@@ -108,12 +108,3 @@ module _ {A : Type 0} (o : Ops A) (st : State A) where
       at_seen : st.shut ≡ false → slip_bay st.rows ≡ None → (x : Option (Session A)) → seen_row (row st.rows i) ≡ x → ask_answer o st i a n x ≡ accepted (granted k (slip_of p)) → Out (moved o st (asks i a n) (accepted (granted k (slip_of p)))) p
       at_seen opened free None q h = refused_accepted h
       at_seen opened free (Some s) q h = at_sum opened free s (o.plus s.holding a) q refl h
-
--- the slip that came back is the one that was out
-same_out : {A : Type 0} (st : State A) (p q : Slip) → q ≡ p → Out st p → Out st q
-same_out st p q e k = subst (λ s. Out st s) (sym e) k
-
-pub kept_held : {A : Type 0} (st : State A) (x y : Option Slip) → Kept x y → Held st x → Held st y
-kept_held st x None h k = tt
-kept_held st None (Some q) h k = absurd h
-kept_held st (Some p) (Some q) h k = same_out st p q h k

@@ -74,8 +74,9 @@ fn the_worked_day(rt: HostRuntime) -> Result<(), Fail> {
         6,
         Phases::of(0x0018_0018_0018),
     );
-    let pile = Reserve::new(cap, 0, Phases::of(0x0004_0004_0004))
-        .map_err(|_| Fail::new("tall reserve"))?;
+    let pile = Reserve::new(cap, 0, Phases::of(0x0004_0004_0004)).map_err(|_| Fail::new(
+        "tall reserve",
+    ))?;
     play(&rt, "phases", &mut Book::new(1, pile), &mut aside(), &STEPS)
 }
 

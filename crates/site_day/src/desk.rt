@@ -1,18 +1,17 @@
-use crate::amps;
 use crate::answers::{Accepted, Answer, Order};
 use crate::contactor::Contactor;
 use crate::portions::ask_and_spend;
+use crate::{Site, amps};
 use amount::Phases;
 use book::Book;
-use pool::Pool;
 use rows::Refusal;
 use std::io;
 
 // The desk of a site: its book, and where each call is told on a line with its answer.
 #[derive(Drop)]
-pub struct Desk<'a, R, P> {
+pub struct Desk<'a, R> {
     rt: &'a R,
-    book: Book<Phases, P>,
+    book: Book<Phases, Site>,
 }
 
 // An order that was answered, with its sheet.
@@ -20,13 +19,17 @@ fn order(sheet: [u8; 64], answer: Result<usize, Refusal>) -> Result<Order, Refus
     answer.map(|count| Order { count, sheet })
 }
 
-impl<'a, R: Print, P: Pool<Phases>> Desk<'a, R, P> {
-    pub fn new(rt: &'a R, book: Book<Phases, P>) -> Desk<'a, R, P> {
+impl<'a, R: Print> Desk<'a, R> {
+    pub fn new(rt: &'a R, book: Book<Phases, Site>) -> Desk<'a, R> {
         Desk { rt, book }
     }
 
     pub fn open(&mut self, bay: u8, mark: u8, claim: u16) -> io::Result<()> {
-        let answer = Answer(self.book.open(bay, mark, amps(claim)).map(|()| Accepted::Done));
+        let answer = Answer(
+            self.book
+                .open(bay, mark, amps(claim))
+                .map(|()| Accepted::Done),
+        );
         println!(self.rt; "open {bay} mark {mark} claim {claim}: {answer}")
     }
 

@@ -8,9 +8,9 @@ mod portions;
 
 use crate::contactor::Contactor;
 use crate::desk::Desk;
-use amount::{Amps, Phases};
+use amount::Phases;
 use book::Book;
-use pool::{Cap, Pool, Reserve, Store, TallReserve};
+use pool::{Cap, Reserve, Store, TallReserve};
 use std::io;
 
 // Bits 1 and 2: the marks of the two firms under the cap.
@@ -21,24 +21,21 @@ const HOUSE: u8 = 0;
 
 type Hall = Cap<Phases, Store<Phases>>;
 
+type Site = Reserve<Phases, Hall>;
+
 // The same amperes on each phase.
 fn amps(each: u16) -> Phases {
-    let value = Amps { value: each };
-    Phases {
-        l1: value,
-        l2: value,
-        l3: value,
-    }
+    Phases::from([each; 3])
 }
 
 // The feed of the site, with a cap on two firms and a reserve for the house.
-fn site() -> Result<Reserve<Phases, Hall>, TallReserve<Hall>> {
+fn site() -> Result<Site, TallReserve<Hall>> {
     let store = Store::new(amps(32));
     let cap = Cap::new(store, FIRMS, amps(24));
     Reserve::new(cap, HOUSE, amps(4))
 }
 
-fn day<R: Print, P: Pool<Phases>>(mut desk: Desk<'_, R, P>) -> io::Result<()> {
+fn day<R: Print>(mut desk: Desk<'_, R>) -> io::Result<()> {
     desk.open(3, 1, 20)?;
     desk.open(5, 2, 16)?;
     desk.ask(3, 12, Contactor::Closes)?;

@@ -2,6 +2,7 @@ ghost use Rattle.std.specs.Prelude.{◌≡◌, MatchResult};
 ghost use Rattle.law.specs.Book.{asks, answer, step, sheet_after};
 ghost use Rattle.book.specs.Books.{state_of};
 ghost use Rattle.book.specs.Replies.{slip_of, of_spent};
+ghost use Rattle.book.specs.Served.{Served};
 ghost use Rattle.site_day.specs.Portions.{slip_for, of_portion, spends};
 ghost use Rattle.site_day.specs.declared.contactor.Contactor.TheVariants.{Fails};
 
@@ -18,8 +19,7 @@ fn spend<A: Archived, P: Pool<A>>(
     slip: Slip,
     contactor: Contactor,
 ) -> Result<(), Unspent>
-    ensures answer { of_spent result ≡ answer A.Amount.ops (state_of A.Archived P.Pool.limits book.old) (spends contactor (slip_of slip)) }
-    ensures after { state_of A.Archived P.Pool.limits book.new ≡ step A.Amount.ops (state_of A.Archived P.Pool.limits book.old) (spends contactor (slip_of slip)) }
+    ensures { Served A.Archived P.Pool.limits book.old (spends contactor (slip_of slip)) (of_spent result) book.new }
 {
     match contactor {
         Contactor::Closes => book.confirm(slip),

@@ -9,7 +9,7 @@ pub unreachable-requires : goal.unreachable-requires
 unreachable-requires g c =
     let st = state_of (kind_of g.A.Amount.ops g.A.Archived) g.P.Pool.limits c.args.book.now in
     let out = subst (λ h. Held st h) c.in-Some-held-2.is c.requires in
-    one_slip g.A.Amount.ops st c.in-Ask.bay c.of-in-Ask.result c.args.sheet.now _ c.in-Some-held-2._other c.in-Ok-ask.ensures.served.answer out
+    one_slip g.A.Amount.ops st c.in-Ask.bay c.of-in-Ask.result c.args.sheet.now _ c.in-Some-held-2._other c.in-Ok.ensures.served.answer out
 
 pub returns-in-Open : goal.returns-in-Open
 returns-in-Open g c =
@@ -29,4 +29,4 @@ returns-in-End g c =
 pub returns-in-None-held-2 : goal.returns-in-None-held-2
 returns-in-None-held-2 g c =
     let st = state_of (kind_of g.A.Amount.ops g.A.Archived) g.P.Pool.limits c.args.book.now in
-    grant_out g.A.Amount.ops st c.in-Ask.bay c.of-in-Ask.result c.args.sheet.now c.in-Ok-ask.field-0.count c.in-Ok-ask.field-0.slip _ c.in-Ok-ask.ensures.served.answer c.in-Ok-ask.ensures.served.after
+    grant_out g.A.Amount.ops st c.in-Ask.bay c.of-in-Ask.result c.args.sheet.now c.in-Ok.field-0.count c.in-Ok.field-0.slip _ c.in-Ok.ensures.served.answer c.in-Ok.ensures.served.after
