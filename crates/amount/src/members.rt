@@ -4,7 +4,7 @@ ghost use Rattle.amount.specs.Words.{set_text};
 use std::fmt;
 
 // The members of a set: the numbers below `count` whose bits are set.
-#[derive(Clone, Copy)]
+#[derive(Clone, Copy, Debug, PartialEq, Eq)]
 pub struct Members {
     pub bits: u64,
     pub count: u32,

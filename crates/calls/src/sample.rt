@@ -1,4 +1,4 @@
-use amount::{Amount, Amps, Modules, Pair, Phases};
+use amount::{Modules, Pair, Phases};
 use archive::Archived;
 
 // Amounts by a number, so that one table of calls serves every kind.
@@ -9,23 +9,14 @@ pub(crate) trait Sample: Archived {
 impl Sample for Phases {
     // L3 in the lowest 16 bits, then L2, then L1
     fn of(n: u64) -> Phases {
-        Phases {
-            l1: Amps {
-                value: ((n >> 32) & 0xFFFF) as u16,
-            },
-            l2: Amps {
-                value: ((n >> 16) & 0xFFFF) as u16,
-            },
-            l3: Amps {
-                value: (n & 0xFFFF) as u16,
-            },
-        }
+        let part = |shift: u32| ((n >> shift) & 0xFFFF) as u16;
+        Phases::from([part(32), part(16), part(0)])
     }
 }
 
 impl Sample for Modules {
     fn of(n: u64) -> Modules {
-        Modules { names: n }
+        Modules::from(n)
     }
 }
 

@@ -12,7 +12,7 @@ use std::process::Abort;
 use std::test::Fail;
 
 // A call with its arguments, an amount as the number of its sample.
-#[derive(Clone, Copy)]
+#[derive(Clone, Copy, Debug, PartialEq, Eq)]
 pub(crate) enum Call {
     Open(u8, u8, u64),
     Ask(u8, u64),
@@ -36,7 +36,7 @@ pub(crate) enum Call {
 }
 
 // The answer that is due.
-#[derive(Clone, Copy)]
+#[derive(Clone, Copy, Debug, PartialEq, Eq)]
 pub(crate) enum Due<'a> {
     Done,
     // the order on the sheet

@@ -35,7 +35,7 @@ impl Sample for Pair<Phases, Modules> {
 }
 
 // One call of a pile, and the answer that is due.
-#[derive(Clone, Copy)]
+#[derive(Clone, Copy, Debug, PartialEq, Eq)]
 enum Step {
     Tall(u8, u64, Option<u8>),
     Short(u8, u64, Option<u8>),
@@ -73,7 +73,7 @@ fn play<A: Sample, P: Pool<A>>(pile: &mut P, steps: &[Step]) -> usize {
 }
 
 // A refusal of another kind, into which a limit's fault travels by `?`.
-#[derive(Clone, Copy)]
+#[derive(Clone, Copy, Debug, PartialEq, Eq)]
 enum Refusal {
     NoRoom(LimitFault),
 }
@@ -170,11 +170,11 @@ fn a_trial_is_a_copy(rt: HostRuntime) -> Result<(), Fail> {
 #[test]
 fn a_fault_travels_with_its_place(rt: HostRuntime) -> Result<(), Fail> {
     let mut pile = worked()?;
-    assert!(rt; matches!(taken(&mut pile, 1, amps(24)), Ok(3)));
-    let Err(Refusal::NoRoom(fault)) = taken(&mut pile, 2, amps(1)) else {
-        return Err(Fail::new("room"));
-    };
-    assert_eq!(rt; fault.place, 1);
+    assert_eq!(rt; taken(&mut pile, 1, amps(24)), Ok(3));
+    assert_eq!(rt;
+        taken(&mut pile, 2, amps(1)),
+        Err(Refusal::NoRoom(LimitFault { place: 1 }))
+    );
     Ok(())
 }
 
@@ -200,14 +200,12 @@ fn a_tall_reserve_hands_the_pile_back(rt: HostRuntime) -> Result<(), Fail> {
         Step::Tall(2, 0b1000, Some(1)),
         Step::Tall(3, 0b1000, None),
     ];
-    let Err(tall) = Reserve::new(Store::new(Modules::from(0b1111)), 3, Modules::from(0b10001))
-    else {
-        return Err(Fail::new("made"));
-    };
+    let made = Reserve::new(Store::new(Modules::from(0b1111)), 3, Modules::from(0b10001));
+    let tall = made.err().ok_or_else(|| Fail::new("made"))?;
     assert_eq!(rt; tall.number(), 15);
-    let Ok(mut pile) = Reserve::new(tall.pile, 3, Modules::from(0b1000)) else {
-        return Err(Fail::new("refused"));
-    };
+    let mut pile = Reserve::new(tall.pile, 3, Modules::from(0b1000)).map_err(|_| Fail::new(
+        "refused",
+    ))?;
     assert_eq!(rt; play(&mut pile, &STEPS), 3);
     Ok(())
 }
@@ -254,9 +252,7 @@ fn pairs_go_six_layers_deep(rt: HostRuntime) -> Result<(), Fail> {
         4,
         most,
     );
-    let Ok(kept) = Reserve::new(base, 200, both(8, 0b1)) else {
-        return Err(Fail::new("tall"));
-    };
+    let kept = Reserve::new(base, 200, both(8, 0b1)).map_err(|_| Fail::new("tall"))?;
     assert_eq!(rt; play(&mut Cap::new(kept, 0xFFFF, small), &STEPS), 10);
     Ok(())
 }

@@ -1,5 +1,5 @@
 -- Bays, sums over them, and the order "t has no more out than u, bay by bay".
-use Rattle.std.proofs.Common.{◌≡◌, ℕ, zero, suc, Bool, true, false, cond, [], ◌∷◌, set, Some, None, Option, sym, refl, ap, ◌∙◌, arith}
+use Rattle.std.proofs.Common.{◌≡◌, ℕ, zero, suc, Bool, true, false, cond, [], ◌∷◌, set, Some, None, Option, sym, refl, ap, ◌∙◌}
 use Rattle.amount.specs.Arithmetic.{Laws, Ops}
 use Rattle.amount.specs.Partial.{never}
 use Rattle.pool.specs.Limits.{Bound}

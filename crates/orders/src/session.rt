@@ -1,7 +1,7 @@
 use std::marker::Model;
 
 // A session at a bay: a firm's mark, the most that it may hold, and what it holds.
-#[derive(Clone, Copy)]
+#[derive(Clone, Copy, Debug, PartialEq, Eq)]
 pub struct Session<A> {
     pub mark: u8,
     pub claim: A,

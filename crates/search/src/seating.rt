@@ -20,7 +20,7 @@ impl<A: Amount> Trial<A> {
     {
         // By get_mut, which was tried, a proof knows how many bays there are, and not what is at them.
         if bay < 64 {
-            self.bays[bay as usize] = session;
+            self.bays[usize::from(bay)] = session;
         }
     }
 

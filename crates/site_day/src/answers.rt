@@ -18,7 +18,7 @@ pub enum Accepted {
 }
 
 // What a call of the book answers, to be told.
-#[derive(Clone, Copy)]
+#[derive(Clone, Copy, Debug, PartialEq, Eq)]
 pub struct Answer(pub Result<Accepted, Refusal>);
 
 impl fmt::Display for Order {

@@ -5,7 +5,7 @@ use amount::Members;
 use std::fmt;
 
 // A set of marks: mark m is in it where the bit worth 2 to the m is set.
-#[derive(Clone, Copy)]
+#[derive(Clone, Copy, Debug, PartialEq, Eq)]
 pub struct Marks(pub u16);
 
 impl fmt::Display for Marks {
