@@ -1,8 +1,6 @@
-// Amounts in words, for every archived kind that is told so, and marks.
+// Amounts in words, for every archived kind that is told so.
 #![tactic(auto)]
 
 mod listed;
-mod marks;
 
 pub use listed::Listed;
-pub use marks::Marks;
