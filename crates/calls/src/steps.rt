@@ -35,7 +35,7 @@ pub(crate) enum Call {
     AllIn,
 }
 
-// The answer that is due.
+// The answer that is due. A refusal by number and place, as the rules tell it, so that a table of calls reads beside theirs.
 #[derive(Clone, Copy, Debug, PartialEq, Eq)]
 pub(crate) enum Due<'a> {
     Done,
@@ -248,6 +248,7 @@ pub(crate) fn play<A: Sample, P: Pool<A>, B: Sample, Q: Pool<B>>(
 }
 
 // Makes the calls at book 1, over a store of each kind: phases, modules, and pairs of both.
+// Each kind by name: a function over the kind was tried, and no proof there knows that its book has a size.
 pub(crate) fn play_each(
     rt: &impl Abort,
     there: u32,

@@ -1,7 +1,7 @@
 use rows::Refusal;
 use std::fmt;
 
-// An order: the bays on the front of a sheet.
+// An order: the bays on the front of a sheet, and how many. Fixed memory, as the call lays it.
 #[derive(Clone, Copy, Debug, PartialEq, Eq)]
 pub struct Order {
     pub count: usize,
