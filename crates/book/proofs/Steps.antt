@@ -1,5 +1,5 @@
 -- What the calls come to, once their tests are known.
-use Rattle.std.proofs.Common.{◌≡◌, ℕ, ◌≤◌, true, false, not, eqb, leb, List, set, is_some, Some, None, Ok, Err, Option, Result, unwrap_or, sym, refl, ap, ◌∙◌, ap₂, subst, arith}
+use Rattle.std.proofs.Common.{◌≡◌, ℕ, ◌≤◌, false, not, eqb, leb, List, set, is_some, Some, None, Ok, Err, Option, Result, unwrap_or, sym, refl, ap, ◌∙◌, ap₂, subst, arith}
 use lib.Seq.{map-set}
 use Rattle.std.proofs.lemmas.Bool.{lt-leb, leb-true}
 use Rattle.amount.specs.Arithmetic.{Ops}
@@ -161,12 +161,6 @@ module _ {A : Type 0} (kind : Kind A) (t : Table) (ls : List (Limit A)) where
       let k = known_ok state.shut i e in
       let n : leb 16 m ≡ false = lt-leb 16 m (omega arith) in
       rw (k.0, k.1, n, free) (ap (open_answer kind.ops state m c) (row_is kind t.rows i))
-
-  pub slip_stops : (i m : ℕ) (c : A) → Ok tt ≡ known state.shut i → m ≤ 15 → is_some (slip_bay state.rows) ≡ true → refusal refusals.Moving ≡ answer kind.ops state (opens i m c)
-  slip_stops i m c e low out =
-      let k = known_ok state.shut i e in
-      let n : leb 16 m ≡ false = lt-leb 16 m (omega arith) in
-      rw (k.0, k.1, n, out)
 
   -- confirm and withdraw
   module _ (call : RowCall) (p : turned Empty call ≡ Err refusals.WrongSlip) (q : turned AtRest call ≡ Err refusals.WrongSlip) (n : turned Moving call ≡ Ok AtRest) (slip : Slip)

@@ -1,18 +1,17 @@
 use Rattle.std.proofs.Common.{◌≡◌, sym, refl, ap, ◌∙◌}
 use Rattle.std.proofs.lemmas.Result.{err_from_is_err_and}
-use Rattle.std.proofs.lemmas.Bool.{leb-false}
 use Rattle.pool.specs.Limits.{tall_place}
 use Rattle.law.specs.Book.{accepted, done, guard_at, opens, answer}
 use Rattle.law.specs.Book as machine
 use Rattle.rows.proofs.Cells.{reads_written}
 use Rattle.rows.specs.Cells.{amount_in}
 use Rattle.rows.specs.Rows.{session_in}
-use Rattle.rows.specs.declared.refusal.Refusal.TheVariants.{TallClaim as OfLimit, Moving as Slipped}
+use Rattle.rows.specs.declared.refusal.Refusal.TheVariants.{TallClaim as OfLimit}
 use Rattle.rows.specs.declared.row.RowState.TheVariants.{AtRest}
 use Rattle.rows.proofs.Bound.{kind_of}
 use Rattle.book.proofs.Read.{fits, known_ok, open_refused, open_turned}
-use Rattle.book.specs.Tables.{row_in, is_shut}
-use Rattle.book.proofs.Steps.{state, refuses, makes, changed, by_tag, calm_at, open_through, slip_stops, tall_told, tall_none}
+use Rattle.book.specs.Tables.{row_in}
+use Rattle.book.proofs.Steps.{state, refuses, makes, changed, by_tag, calm_at, open_through, tall_told, tall_none}
 use Rattle.book.proofs.book.Book.open.Goals as goal
 
 pub returns-in_err-next : goal.returns-in_err-next
@@ -76,21 +75,3 @@ returns g c =
     let row = ap (λ x. F x (amount_in kind c.write-2.new.self)) claim ∙ ap (F k) zero in
     rw c.from-2.ensures (makes kind limits b (opens i m k) _ done h
     (changed kind b.table st.pile i _ st.pile st.pile (F k o.zero) refl (by_tag kind b.table st.pile _ AtRest turns.0 ∙ row)))
-
-pub returns-then-slip_out : goal.returns-then-slip_out
-returns-then-slip_out g c =
-    let o = g.A.Amount.ops in
-    let kind = kind_of g.A.Amount.ops g.A.Archived in
-    let limits = g.P.Pool.limits in
-    let b = c.args.self.now in
-    let i = c.args.bay in
-    let m = c.args.mark in
-    let k = c.args.claim in
-    let h = slip_stops kind b.table (limits b.pile) i m k c.in_ok-known.ensures c.if-mark-gt15.false (sym c.slip_out.ensures ∙ c.if-slip_out.true) in
-    refuses kind limits b (opens i m k) b Slipped refl h
-
-pub bounds-self-from : goal.bounds-self-from
-bounds-self-from g c = rw c.from.ensures (leb-false 64 c.args.bay (known_ok (is_shut g.A.Archived.W c.args.self.now.table) c.args.bay c.in_ok-known.ensures).1)
-
-pub bounds-self-from-2 : goal.bounds-self-from-2
-bounds-self-from-2 g c = rw c.from-2.ensures (leb-false 64 c.args.bay (known_ok (is_shut g.A.Archived.W c.args.self.now.table) c.args.bay c.in_ok-known.ensures).1)
