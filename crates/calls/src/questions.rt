@@ -58,8 +58,8 @@ fn every_bay_is_open(rt: HostRuntime) -> Result<(), Fail> {
         (Call::End(63), Due::Done),
         (Call::Order, Due::Named(&ALL[0..63])),
     ];
-    let mut steps = [(Call::AllIn, Due::Says(true)); 74];
-    steps[0..64].copy_from_slice(&opens);
-    steps[64..74].copy_from_slice(&asked);
-    play_each(&rt, 2, 0b1111, &steps)
+    let mut steps = Vec::new(rt.alloc());
+    steps.extend_from_slice(&opens)?;
+    steps.extend_from_slice(&asked)?;
+    play_each(&rt, 2, 0b1111, steps.as_slice())
 }
