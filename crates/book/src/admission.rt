@@ -10,7 +10,7 @@ use orders::Session;
 use rows::{Refusal, RowCall, RowState, turn};
 
 impl Table {
-    // A kind wider than 16 bytes shuts every book.
+    // A kind wider than 16 bytes shuts every book. Each call asks it: a guard that answers refusal 1 would be no shorter there.
     pub(crate) fn is_shut<A: Archived>(&self) -> bool
         ensures { result ≡ is_shut A.Archived.W self.now }
     {

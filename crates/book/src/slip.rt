@@ -25,7 +25,8 @@ pub struct Unspent {
 }
 
 impl Slip {
-    // Spent where the call is made; where it is refused, the slip comes back with the refusal.
+    // Spent where the call is made; where it is refused, the slip comes back with the refusal. By a match: in a closure of
+    // map_err the slip would have to be let go where the call is made.
     pub(crate) fn spent(self, call: Result<(), Refusal>) -> Result<(), Unspent>
         ensures { result ≡ spent self call }
     {

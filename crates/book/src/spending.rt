@@ -32,7 +32,7 @@ impl<A: Archived, P: Pool<A>> Book<A, P> {
         slip.spent(call)
     }
 
-    // What a confirm does where its slip is this book's, and its bay moves.
+    // What a confirm does where its slip is this book's and its bay moves; else refusals 1 and 13.
     fn keep_portion(&mut self, slip: &Slip) -> Result<(), Refusal>
         ensures { Served A.Archived P.Pool.limits self.old (confirms (slip_of slip.now)) (of_done result) self.new }
     {
@@ -41,7 +41,7 @@ impl<A: Archived, P: Pool<A>> Book<A, P> {
         Ok(())
     }
 
-    // What a withdrawal does there, where the pile takes the portion back.
+    // What a withdrawal does there, where the pile takes the portion back; else refusals 1, 13 and 14.
     fn return_portion(&mut self, slip: &Slip) -> Result<(), Refusal>
         ensures served { Served A.Archived P.Pool.limits self.old (withdraws (slip_of slip.now)) (of_done result) self.new }
         ensures fault { IfErr result (TornAt (torn_withdraw A.Amount.ops (state_of A.Archived P.Pool.limits self.old) slip.now.bay)) }

@@ -9,8 +9,8 @@ use archive::Archived;
 use rows::{Row, RowState};
 use search::Trial;
 
-// The 64 rows of a book, with its number and whether it was made shut.
-#[derive(Clone, Copy)]
+// The 64 rows of a book, with its number and whether it was made shut. A plain table: the rules name that form.
+#[derive(Clone, Copy, Debug, PartialEq, Eq)]
 pub(crate) struct Table {
     pub(crate) number: u32,
     pub(crate) shut: bool,

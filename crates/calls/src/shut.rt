@@ -3,7 +3,6 @@ use crate::steps::{Call, Due, aside, play};
 use amount::{Modules, Pair, Phases};
 use book::Book;
 use pool::{Pool, Store};
-use std::process::Abort;
 use std::test::Fail;
 
 // Every call that needs no slip.
@@ -51,7 +50,7 @@ fn fifteen() -> Store<Phases> {
 }
 
 // A book that is shut refuses every call; a slip of another book is refused as shut too, whatever numbers the books have.
-fn play_shut<A: Sample, P: Pool<A>>(rt: &impl Abort, mut shut: Book<A, P>) -> Result<(), Fail> {
+fn play_shut<A: Sample, P: Pool<A>>(rt: &HostRuntime, mut shut: Book<A, P>) -> Result<(), Fail> {
     play(
         rt,
         "shut",

@@ -63,7 +63,8 @@ fn done(r: Result<(), Refusal>) -> Answer {
     Some(r.map(|()| Reply::Done))
 }
 
-// What came of spending a slip, and the slip where it was handed back.
+// What came of spending a slip, and the slip where it was handed back. Each call that spends one looks
+// for it itself, and spends it at the one book or the other.
 fn spent(r: Result<(), Unspent>) -> (Answer, Option<Slip>)
     ensures { result.1 ≡ handed_back r }
 {
@@ -290,7 +291,7 @@ pub(crate) fn aside() -> Book<Phases, Store<Phases>> {
     Book::new(2, Store::new(Phases::of(0)))
 }
 
-// Makes the calls over a pile of three places, of each kind.
+// Makes the calls over a pile of three places, of each kind, by name as above.
 pub(crate) fn play_piled(rt: &impl Abort, steps: &[(Call, Due)]) -> Result<(), Fail> {
     play_counted(rt, steps)?;
     play(

@@ -4,25 +4,21 @@ use dayfile::{Fault, LONGEST, Reader};
 use listing::list_day;
 use std::test::Fail;
 
-// How far a file of phases reads through, or the number and the position of the fault that ends it.
+// How far a file of phases reads through, or the number of the fault that ends it and where the reader then stands.
 fn ending(file: &[u8]) -> Result<usize, (u8, usize)> {
     let mut reader = Reader::<Phases>::new(file).map_err(|fault| (fault.number(), LONGEST))?;
-    // each record but the last takes a byte at least
+    // each record takes a byte at least
     for _ in 0..file.len() {
-        let at = reader.position();
-        if reader
-            .next_record()
-            .map_err(|fault| (fault.number(), at))?
-            .is_none()
-        {
-            return Ok(at);
+        match reader.next_record() {
+            Ok(Some(_)) => {}
+            Ok(None) => return Ok(reader.position()),
+            Err(fault) => return Err((fault.number(), reader.position())),
         }
     }
-    let at = reader.position();
-    reader
-        .next_record()
-        .map(|_| at)
-        .map_err(|fault| (fault.number(), at))
+    match reader.next_record() {
+        Ok(_) => Ok(reader.position()),
+        Err(fault) => Err((fault.number(), reader.position())),
+    }
 }
 
 // Where the record begins that has its last byte at `at` or behind it.

@@ -6,7 +6,7 @@ fn amps(n: u16) -> Phases {
     Phases::from([n; 3])
 }
 
-// Amounts by a number, so that a table of calls is plain.
+// Amounts by a number, so that a table of calls is plain. Not the numbers of the book's tests: here one stands for all phases.
 trait Sample: Amount {
     fn of(n: u64) -> Self;
 }

@@ -3,7 +3,7 @@ ghost use Rattle.std.specs.Prelude.{◌≡◌, ◌<◌, [], ◌∷◌, ◌++◌,
 use std::marker::Model;
 
 // An order of bays: the first `count` of `bays`, and zeros behind them.
-// Fixed memory, and copied, as the kit's ArrayVec is not: that was tried here.
+// Fixed memory, and `Copy` for its callers, which the kit's ArrayVec is not: that was tried here.
 #[derive(Clone, Copy, Debug, Eq, PartialEq)]
 pub struct Order {
     pub(crate) bays: [u8; 64],

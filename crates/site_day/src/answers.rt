@@ -1,29 +1,26 @@
 use rows::Refusal;
 use std::fmt;
 
-// An order: the bays on the front of a sheet, and how many. Fixed memory, as the call lays it.
+// The bays of an order.
 #[derive(Clone, Copy, Debug, PartialEq, Eq)]
-pub struct Order {
-    pub count: usize,
-    pub sheet: [u8; 64],
-}
+pub(crate) struct Order<'a>(pub(crate) &'a [u8]);
 
 // What an accepted call of the book answers.
 #[derive(Clone, Copy, Debug, PartialEq, Eq)]
-pub enum Accepted {
+pub(crate) enum Accepted<'a> {
     Done,
-    Granted(Order),
-    Ordered(Order),
+    Granted(Order<'a>),
+    Ordered(Order<'a>),
     AllIn(bool),
 }
 
 // What a call of the book answers, to be told.
 #[derive(Clone, Copy, Debug, PartialEq, Eq)]
-pub struct Answer(pub Result<Accepted, Refusal>);
+pub(crate) struct Answer<'a>(pub(crate) Result<Accepted<'a>, Refusal>);
 
-impl fmt::Display for Order {
+impl fmt::Display for Order<'_> {
     fn fmt<W: fmt::Write>(&self, f: &mut fmt::Formatter<W>) -> fmt::Result {
-        for (i, bay) in self.sheet.iter().take(self.count).enumerate() {
+        for (i, bay) in self.0.iter().enumerate() {
             if i > 0 {
                 f.write_str(" ")?;
             }
@@ -33,7 +30,7 @@ impl fmt::Display for Order {
     }
 }
 
-impl fmt::Display for Accepted {
+impl fmt::Display for Accepted<'_> {
     fn fmt<W: fmt::Write>(&self, f: &mut fmt::Formatter<W>) -> fmt::Result {
         match self {
             Accepted::Done => f.write_str("done"),
@@ -45,7 +42,7 @@ impl fmt::Display for Accepted {
     }
 }
 
-impl fmt::Display for Answer {
+impl fmt::Display for Answer<'_> {
     fn fmt<W: fmt::Write>(&self, f: &mut fmt::Formatter<W>) -> fmt::Result {
         match &self.0 {
             Ok(accepted) => write!(f, "{accepted}"),

@@ -13,7 +13,7 @@ use book::{Book, Grant, Slip, Unspent};
 use pool::Pool;
 use rows::Refusal;
 
-// Spends the slip by what the contactor did.
+// Spends the slip by what the contactor did. By a value and not a closure: the clause names the call that it stands for.
 fn spend<A: Archived, P: Pool<A>>(
     book: &mut Book<A, P>,
     slip: Slip,
@@ -29,7 +29,7 @@ fn spend<A: Archived, P: Pool<A>>(
 
 // Asks, and spends the slip where it is granted: a contactor that fails leaves the book as it was.
 // Answers how many bays the order has.
-pub fn ask_and_spend<A: Archived, P: Pool<A>>(
+pub(crate) fn ask_and_spend<A: Archived, P: Pool<A>>(
     book: &mut Book<A, P>,
     bay: u8,
     amount: A,
