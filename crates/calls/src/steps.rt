@@ -11,7 +11,8 @@ use rows::Refusal;
 use std::process::Abort;
 use std::test::Fail;
 
-// A call with its arguments, an amount as the number of its sample.
+// A call with its arguments, an amount as the number of its sample. A sheet by the case, so that each call of a table stays on
+// its line.
 #[derive(Clone, Copy, Debug, PartialEq, Eq)]
 pub(crate) enum Call {
     Open(u8, u8, u64),
