@@ -1,7 +1,8 @@
 use amount::{Modules, Pair, Phases};
 use archive::Archived;
 
-// Amounts by a number, so that one table of calls serves every kind. Not the numbers of the piles' tests: here each phase has its own.
+// Amounts by a number, so that one table of calls serves every kind. Not the numbers of the piles' tests: here each phase has
+// its own.
 pub(crate) trait Sample: Archived {
     fn of(n: u64) -> Self;
 }
