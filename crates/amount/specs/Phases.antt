@@ -1,5 +1,5 @@
 -- Phases: three counts of amperes, each of which adds for itself; undefined where one is. Assumes nothing.
-use Rattle.std.specs.Prelude.{◌≡◌, ◌&&◌, Some, None, Option}
+use Rattle.std.specs.Prelude.{◌&&◌, Some, None, Option}
 use Rattle.amount.specs.Arithmetic.{Ops}
 use Rattle.amount.specs.Counts.{amps_ops}
 use Rattle.amount.specs.declared.amps.Amps.{Amps}
@@ -18,10 +18,6 @@ three (Some x) (Some y) (Some z) = Some (phases_of x y z)
 -- an operation on each phase
 abbrev pub each_phase : (Amps → Amps → Option Amps) → Phases → Phases → Option Phases
 each_phase f a b = three (f a.l1 b.l1) (f a.l2 b.l2) (f a.l3 b.l3)
-
--- what the step makes of each phase, where it makes something of all three
-abbrev pub OnEachPhase : (Amps → Amps → Option Amps → Type 0) → Phases → Phases → Option Phases → Type 0
-OnEachPhase Step a b result = (x y z : Option Amps) × Step a.l1 b.l1 x × Step a.l2 b.l2 y × Step a.l3 b.l3 z × (result ≡ three x y z)
 
 abbrev pub phases_ops : Ops Phases
 phases_ops = record {
