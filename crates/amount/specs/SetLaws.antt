@@ -27,7 +27,7 @@ modules_counted = record {
 pub modules_eq : (a b : Modules) → a.names ≡ b.names → a ≡ b
 modules_eq = number_inj modules_counted
 
-sum_made : (a b c : Modules) → bit_and a.names b.names ≡ 0 → c.names ≡ bit_or a.names b.names → modules_ops.plus a b ≡ Some c
+pub sum_made : (a b c : Modules) → bit_and a.names b.names ≡ 0 → c.names ≡ bit_or a.names b.names → modules_ops.plus a b ≡ Some c
 sum_made a b c p e = given_is _ (union a b) p ∙ ap Some (modules_eq (union a b) c (sym e))
 
 sum_over : (a b : Modules) → (bit_and a.names b.names ≢ 0) → modules_ops.plus a b ≡ None
@@ -38,7 +38,7 @@ sum_is a b c e =
     let h = given_held (ℕ_discrete (bit_and a.names b.names) 0) (union a b) c e in
     (h.0, ap (λ (m : Modules). m.names) (sym h.1) ∙ or_disjoint a.names b.names h.0)
 
-minus_made : (a b c : Modules) → bit_and a.names b.names ≡ a.names → c.names ≡ b.names - a.names → modules_ops.minus b a ≡ Some c
+pub minus_made : (a b c : Modules) → bit_and a.names b.names ≡ a.names → c.names ≡ b.names - a.names → modules_ops.minus b a ≡ Some c
 minus_made a b c p e = given_is _ (without b a) p ∙ ap Some (modules_eq (without b a) c (sym e))
 
 minus_over : (a b : Modules) → (bit_and a.names b.names ≢ a.names) → modules_ops.minus b a ≡ None

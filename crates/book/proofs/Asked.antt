@@ -32,7 +32,7 @@ module _ {A : Type 0} (o : Ops A) (st : State A) (i : ℕ) (a : A) (sheet : List
   kept h k false e n = some_none n refl
 
   -- 8 is passed
-  fits_claim : (p : Option A) (h : A) → bounded o s.claim p ≡ Some h → (p ≡ Some h) × (grant_answer o st i a sheet s p ≡ from_nine h (short_place o st.pile s.mark a))
+  pub fits_claim : (p : Option A) (h : A) → bounded o s.claim p ≡ Some h → (p ≡ Some h) × (grant_answer o st i a sheet s p ≡ from_nine h (short_place o st.pile s.mark a))
   fits_claim None h n = some_none n refl
   fits_claim (Some k) h n = let x = kept k h (part o k s.claim) refl n in (ap Some x.0, x.1 ∙ ap (λ y. from_nine y (short_place o st.pile s.mark a)) x.0)
 

@@ -67,6 +67,11 @@ module _ {A : Type 0} (o : Ops A) where
           | false ↦ (refl, refl)
         ]
 
+  -- what is out after a change, by whether the mark is watched
+  pub by_watch : (b : Bool) {r x y : Option A} → (b ≡ true → r ≡ x) → (b ≡ false → r ≡ y) → r ≡ cond b x y
+  by_watch true f h = f refl
+  by_watch false f h = h refl
+
   -- the ways through a change of a layer: both change, this limit alone refuses, or the pile below does
   both_change : (res : Result (List (Limit A)) ℕ) (ls exit : List (Limit A)) (l new : Limit A) (c : ℕ) → Changed res ls exit (Ok tt) → Changed (on_top res false new c) (ls ++ (l ∷ [])) (exit ++ (new ∷ [])) (Ok tt)
   both_change (Ok r) ls exit l new c h = (refl, ap (λ r. r ++ (new ∷ [])) h.1)

@@ -1,4 +1,4 @@
-ghost use Rattle.std.specs.Prelude.{◌≡◌, ◌&&◌, if◌then◌else◌, [], ◌∷◌, ◌++◌, length, Some as There};
+ghost use Rattle.std.specs.Prelude.{◌≡◌, ◌&&◌, true, false, [], ◌∷◌, ◌++◌, length, Some as There};
 ghost use Rattle.std.specs.Bool.{then_some};
 ghost use Rattle.std.specs.Fn.{FnOnceReturnsAtMut};
 ghost use Rattle.std.specs.Option.{option_or};
@@ -41,12 +41,15 @@ impl<A: Amount, P: Pool<A>, W: Watch> Layer<A, P, W> {
         lower.or(here.then_some(self.below.count()))
     }
 
-    // What is out here after a change that would make it `changed`: what is out now, where the mark is not watched.
-    fn after(&self, mark: u8, changed: Option<A>) -> Option<A>
-        ensures { result ≡ (if W.Watch.watched self.now.watch mark then changed else There self.now.gauge.out) }
+    // What is out here after a change that would make it `changed`: what is out now, where the mark is not watched, and then
+    // nothing is reckoned.
+    fn after<F: FnOnce() -> Option<A>>(&self, mark: u8, changed: F) -> Option<A>
+        requires { F.IsAlwaysCallable changed }
+        ensures watched { W.Watch.watched self.now.watch mark ≡ true → F.post changed result }
+        ensures unwatched { W.Watch.watched self.now.watch mark ≡ false → result ≡ There self.now.gauge.out }
     {
         if self.watch.watches(mark) {
-            changed
+            changed()
         } else {
             Some(self.gauge.out)
         }
@@ -94,12 +97,12 @@ impl<A: Amount, P: Pool<A>, W: Watch> Pool<A> for Layer<A, P, W> {
     }
 
     fn take(&mut self, mark: u8, amount: A) -> Result<(), LimitFault> {
-        let more = self.after(mark, self.gauge.grown(amount));
+        let more = self.after(mark, || self.gauge.grown(amount));
         self.change(more, |below| below.take(mark, amount))
     }
 
     fn give(&mut self, mark: u8, amount: A) -> Result<(), LimitFault> {
-        let rest = self.after(mark, self.gauge.shrunk(amount));
+        let rest = self.after(mark, || self.gauge.shrunk(amount));
         self.change(rest, |below| below.give(mark, amount))
     }
 

@@ -1,4 +1,4 @@
-ghost use Rattle.std.specs.Prelude.{◌≡◌, length};
+ghost use Rattle.std.specs.Prelude.{◌≡◌, ◌≤◌, length, IfSome};
 ghost use Rattle.law.specs.SafeOrder.{safe_order};
 ghost use Rattle.search.specs.Completing.{completing};
 ghost use Rattle.search.specs.Emptied.{without};
@@ -30,6 +30,7 @@ impl<A: Amount> Trial<A> {
     // Absent where it does not name every open bay. What it names is empty afterwards.
     pub fn completion_order<P: Pool<A>>(&mut self, pile: &P) -> Option<Order>
         ensures order { result ≡ completing A.Amount.ops (P.Pool.limits pile.now) self.old }
+        ensures fits { IfSome result (λ order. length order ≤ 64) }
         ensures left { self.new ≡ without (safe_order A.Amount.ops (P.Pool.limits pile.now) self.old) self.old }
         ensures bays { length self.new ≡ 64 }
     {

@@ -1,4 +1,4 @@
-ghost use Rattle.std.specs.Prelude.{◌≡◌, ◌<◌, [], ◌∷◌, ◌++◌, length};
+ghost use Rattle.std.specs.Prelude.{◌≡◌, ◌<◌, ◌≤◌, [], ◌∷◌, ◌++◌, length};
 
 use std::marker::Model;
 
@@ -39,10 +39,13 @@ impl Order {
         }
     }
 
-    pub(crate) fn len(&self) -> usize
-        ensures { result ≡ length self.now }
+    // How many bays it names.
+    pub fn len(&self) -> usize
+        ensures count { result ≡ length self.now }
+        ensures fits { length self.now ≤ 64 }
     {
-        self.count
+        let Order { count, .. } = self;
+        *count
     }
 
     // Adds a bay at the end.

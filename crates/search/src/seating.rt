@@ -13,6 +13,15 @@ impl<A: Amount> Trial<A> {
         Trial { bays: [None; 64] }
     }
 
+    // How many bays there are.
+    pub fn len(&self) -> usize
+        ensures count { result ≡ 64 }
+        ensures bays { length self.now ≡ 64 }
+    {
+        let bays: &[Option<Session<A>>] = &self.bays;
+        bays.len()
+    }
+
     // Seats a session at the bay, or leaves it empty; there is no bay above 63.
     pub fn seat(&mut self, bay: u8, session: Option<Session<A>>)
         ensures seated { self.new ≡ slice_set self.old bay session }

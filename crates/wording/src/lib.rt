@@ -2,5 +2,7 @@
 #![tactic(auto)]
 
 mod listed;
+mod no_memory;
 
 pub use listed::Listed;
+pub use no_memory::NoMemory;

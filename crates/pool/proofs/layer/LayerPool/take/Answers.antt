@@ -1,8 +1,8 @@
-use Rattle.std.proofs.Common.{rules}
+use Rattle.std.proofs.Common.{◌≡◌, cond, Some, rules}
 use Rattle.pool.specs.Changes.{Changed}
-use Rattle.pool.specs.Limits.{over, grown, taking}
+use Rattle.pool.specs.Limits.{over, grown, taking, room}
 use Rattle.pool.specs.Piles.{gauged}
-use Rattle.pool.proofs.Layers.{layer_changed, take_tells}
+use Rattle.pool.proofs.Layers.{by_watch, layer_changed, take_tells}
 use Rattle.pool.proofs.layer.LayerPool.take.Goals as goal
 
 pub returns : goal.returns
@@ -17,4 +17,5 @@ returns g c =
     let below = g.P.Pool.limits c.change.ensures.1 in
     let call = c.change.ensures.2 in
     let changed : Changed (taking k ls m a) ls below told = search rules in
-    layer_changed k (λ x. over k m (k.plus x.out a) x.bound) (grown k m a) ls below l c.after-more.result told _ _ (rw (c.after-more.ensures, c.grown.ensures) (take_tells k m a l)) changed c.change.ensures.3
+    let out : c.after-more.result ≡ cond (l.bound.watches m) (room k l.bound.ceiling l.out a) (Some l.out) = by_watch k (l.bound.watches m) (λ w. let made = c.after-more.ensures.watched w in search rules) c.after-more.ensures.unwatched in
+    layer_changed k (λ x. over k m (k.plus x.out a) x.bound) (grown k m a) ls below l c.after-more.result told _ _ (rw out (take_tells k m a l)) changed c.change.ensures.3
